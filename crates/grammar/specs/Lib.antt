@@ -1,0 +1,6 @@
+pub mod Refusals
+pub mod Asking
+pub mod TermCommands
+pub mod Singles
+pub mod Items
+pub mod Encodings

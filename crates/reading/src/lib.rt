@@ -1,0 +1,2 @@
+// Reading of books, queries and rules from the caller's bytes, which stay as they are.
+pub mod commands;
