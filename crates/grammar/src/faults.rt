@@ -64,6 +64,14 @@ pub impl From<CommandFault> for RuleFault as RuleFromCommand {
     }
 }
 
+pub impl From<CommandFault> for SingleFault as SingleFromCommand {
+    ghost converts = { λ e r. r ≡ Inside (Command e) };
+
+    fn from(e: CommandFault) -> SingleFault {
+        SingleFault::Inside(RuleFault::Command(e))
+    }
+}
+
 pub impl From<RuleFault> for SingleFault as SingleFromRule {
     ghost converts = { λ e r. r ≡ Inside e };
 

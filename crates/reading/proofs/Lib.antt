@@ -1,1 +1,4 @@
 mod Fronts
+mod Passing
+mod Parts
+mod Under

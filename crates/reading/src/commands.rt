@@ -3,10 +3,12 @@ ghost use mathlib.Core.Path.{_≡_};
 ghost use Prim.Native.Nat.{_+_, _*_, _^_, _<_};
 ghost use lib.ListN.{length, drop};
 ghost use denote.Ref.{now as held};
-ghost use Rattle.grammar.specs.TermCommands.{command as grammar-command};
-ghost use Rattle.reading.specs.Taking.{one-byte, two-bytes, first-command, size, taken-size};
+ghost use Rattle.grammar.specs.TermCommands.{command as grammar-command, commands, terms as grammar-terms};
+ghost use Rattle.reading.specs.Taking.{one-byte, two-bytes, first-command, size, taken-size, left, Passed, Went, over};
 use grammar::commands::Command;
 use grammar::faults::CommandFault;
+use grammar::faults::RuleFault;
+use grammar::faults::RuleFromCommand;
 use terms::Form;
 
 // What is left of a frame, and the place of its first byte in all the bytes.
@@ -69,6 +71,15 @@ impl<'a> Reader<'a> {
         Reader { bytes, place: 0 }
     }
 
+    // A reader of a frame that begins at this place.
+    pub(crate) fn at(bytes: &'a [u8], place: usize) -> Reader<'a>
+        requires { ⌜ place + length (now bytes) < 2 ^ 64 ⌝ }
+        ensures bytes { λ r. ⌜ now (r .bytes) ≡ now (bytes .entry) ⌝ }
+        ensures place { λ r. ⌜ r .place ≡ place ⌝ }
+    {
+        Reader { bytes, place }
+    }
+
     // The place of the next command.
     pub fn place(&self) -> usize
         ensures { λ r. ⌜ r ≡ now (self .entry) .place ⌝ }
@@ -90,5 +101,41 @@ impl<'a> Reader<'a> {
         self.bytes = &self.bytes[size..];
         self.place += size;
         Ok(Some(command))
+    }
+
+    // Takes as many terms as are due, over so many variables.
+    pub(crate) fn terms(&mut self, form: Form, variables: u8, mut due: usize) -> Result<(), RuleFault>
+        requires { ⌜ due + length (now (now self .bytes)) < 2 ^ 64 ⌝ }
+        ensures value { λ r. ⌜ Passed (left (grammar-terms variables due (commands form (now (self .entry) .place) (now (now (self .entry) .bytes))))) r (commands form (now (self .exit) .place) (now (now (self .exit) .bytes))) ⌝ }
+        ensures went { λ _. ⌜ Went (now (self .entry) .place) (now (now (self .entry) .bytes)) (now (self .exit) .place) (now (now (self .exit) .bytes)) ⌝ }
+    {
+        while due > 0 {
+            let place = self.place;
+            let Some(command) = self.command(form)? else {
+                return Err(RuleFault::TermMissing { place });
+            };
+            match command {
+                Command::Atom(_) => due -= 1,
+                Command::Var(number) => {
+                    if number >= u16::from(variables) {
+                        return Err(RuleFault::Undeclared { place });
+                    }
+                    due -= 1;
+                }
+                Command::Pair => due += 1,
+            }
+        }
+        Ok(())
+    }
+
+    // Nothing of the frame is left.
+    pub(crate) fn finish(&self) -> Result<(), RuleFault>
+        ensures { λ r. ⌜ r ≡ over (now (self .entry) .place) (now (now (self .entry) .bytes)) ⌝ }
+    {
+        if self.bytes.is_empty() {
+            Ok(())
+        } else {
+            Err(RuleFault::LengthLeft { place: self.place })
+        }
     }
 }

@@ -1,2 +1,3 @@
 // Reading of books, queries and rules from the caller's bytes, which stay as they are.
 pub mod commands;
+pub mod rules;
