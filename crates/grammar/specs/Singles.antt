@@ -77,7 +77,7 @@ single byte due make (b ∷ bs) =
     ask (eqb b byte) (Start 0)
     (go (header 0 bs) (λ e. Inside (Command e)) (λ h.
     go (body (due h) 0 h) Inside (λ ts.
-    ask (eqb (h .size) (length (h .rest))) (BytesLeft (header-size + h .size))
+    ask (leb (length (h .rest)) (h .size)) (BytesLeft (header-size + h .size))
     (Ok (make (h .variables) ts)))))
 
 -- a rule's head is one term more than its goals

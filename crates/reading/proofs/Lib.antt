@@ -2,3 +2,4 @@ mod Fronts
 mod Passing
 mod Parts
 mod Under
+mod Alone

@@ -1,8 +1,8 @@
 -- What is read, without the references in it. Assumes nothing.
 use mathlib.Core.Bool.{_&&_}
-use mathlib.Core.List.{List}
+use mathlib.Core.List.{List, [], _∷_}
 use Prim.Native.Nat.{ℕ, _+_}
-use lib.Dec.{leb}
+use lib.Dec.{eqb, leb}
 use lib.ListN.{length, take, drop}
 use denote.Ref.{now, RefT}
 use Rattle.std.specs.declared.result.Result.{Result}
@@ -11,10 +11,12 @@ use Rattle.terms.specs.declared.Form.the-variants.{Rules}
 use Rattle.terms.specs.Terms.{Term, Rule, Query}
 use Rattle.terms.specs.Bytes.{encoding, encodings}
 use Rattle.grammar.specs.declared.faults.RuleFault.{RuleFault}
-use Rattle.grammar.specs.declared.faults.RuleFault.the-variants.{Variables, Goals, Length}
+use Rattle.grammar.specs.declared.faults.RuleFault.the-variants.{Command, Variables, Goals, Length}
+use Rattle.grammar.specs.declared.faults.SingleFault.{SingleFault}
+use Rattle.grammar.specs.declared.faults.SingleFault.the-variants.{Inside, Start, BytesLeft}
 use Rattle.grammar.specs.Asking.{ask, go}
 use Rattle.grammar.specs.TermCommands.{commands, terms}
-use Rattle.grammar.specs.Singles.{Header, header-size, most-variables, most-goals, longest, used-up, body, rule-due, rule-of, query-due, query-of}
+use Rattle.grammar.specs.Singles.{Header, header-size, most-variables, most-goals, longest, header, used-up, body, rule-due, rule-of, query-due, query-of}
 use Rattle.reading.specs.declared.rules.Header.{Header as Read-header}
 use Rattle.reading.specs.declared.rules.Rule.{Rule as Read-rule}
 use Rattle.reading.specs.declared.rules.Query.{Query as Read-query}
@@ -83,3 +85,12 @@ rule-under p h = go (body (rule-due h) p h) (λ e. e) (λ ts. Ok (rule-shown p (
 
 abbrev pub query-under : Header → Result Query-view RuleFault
 query-under h = go (body (query-due h) 0 h) (λ e. e) (λ ts. Ok (query-shown (query-of (h .variables) ts)))
+
+-- the header of a rule or a query that stands by itself and begins with its byte
+abbrev pub single-header : ℕ → List ℕ → Result Header SingleFault
+single-header byte [] = Err (Start 0)
+single-header byte (b ∷ bs) = ask (eqb b byte) (Start 0) (go (header 0 bs) (λ e. Inside (Command e)) (λ h. Ok h))
+
+-- the bytes end with the terms under the header
+abbrev pub single-end : Header → Result Unit SingleFault
+single-end h = ask (leb (length (h .rest)) (h .size)) (BytesLeft (header-size + h .size)) (Ok tt)

@@ -5,7 +5,7 @@ ghost use lib.ListN.{length, drop};
 ghost use Rattle.std.specs.Vec.{made};
 ghost use Rattle.grammar.specs.Asking.{go};
 ghost use Rattle.grammar.specs.Singles.{header as grammar-header, body as grammar-body, rule-due, rule-of, query-due, query-of, rule as grammar-rule, query as grammar-query};
-ghost use Rattle.reading.specs.Views.{seen, header-view, rule-view, rule-shown, query-view, query-shown, both-views, parts-read, rule-under, query-under, frame-bytes};
+ghost use Rattle.reading.specs.Views.{seen, header-view, rule-view, rule-shown, query-view, query-shown, both-views, parts-read, rule-under, query-under, frame-bytes, single-header, single-end};
 use crate::commands::Reader;
 use grammar::faults::CommandFault;
 use grammar::faults::RuleFault;
@@ -14,6 +14,10 @@ use grammar::faults::SingleFromCommand;
 use grammar::faults::SingleFromRule;
 use terms::Form;
 
+// the first byte of a rule, and of a query
+pub(crate) const RULE: u8 = 0x10;
+const QUERY: u8 = 0x12;
+// how many bytes a header has
 const HEADER: usize = 5;
 const MOST_VARIABLES: u8 = 64;
 const MOST_GOALS: u8 = 16;
@@ -55,6 +59,7 @@ impl<'a> Header<'a> {
     // The header that `bytes` begin with, at `place`.
     pub(crate) fn read(bytes: &'a [u8], place: usize) -> Result<Header<'a>, CommandFault>
         ensures value { λ r. ⌜ seen header-view r ≡ grammar-header place (drop 1 (now (bytes .entry))) ⌝ }
+        ensures within { λ r. ⌜ made r (λ h. 5 + length (now (h .rest)) ≡ length (now (bytes .entry))) ⌝ }
     {
         let [_, variables, goals, high, low, rest @ ..] = bytes else {
             return Err(CommandFault::Operands { place });
@@ -77,6 +82,28 @@ impl<'a> Header<'a> {
             return Err(RuleFault::Length { place });
         }
         Ok(&self.rest[0..self.length])
+    }
+
+    // The header of a rule or a query that stands by itself and begins with this byte.
+    fn single(bytes: &'a [u8], byte: u8) -> Result<Header<'a>, SingleFault>
+        ensures value { λ r. ⌜ seen header-view r ≡ single-header byte (now (bytes .entry)) ⌝ }
+        ensures within { λ r. ⌜ made r (λ h. 5 + length (now (h .rest)) ≡ length (now (bytes .entry))) ⌝ }
+    {
+        match bytes {
+            [first, ..] if *first == byte => Ok(Header::read(bytes, 0)?),
+            _ => Err(SingleFault::Start { place: 0 }),
+        }
+    }
+
+    // The bytes end with the terms under this header.
+    fn end(&self) -> Result<(), SingleFault>
+        requires { ⌜ 5 + now self .length < 2 ^ 64 ⌝ }
+        ensures { λ r. ⌜ r ≡ single-end (header-view (now (self .entry))) ⌝ }
+    {
+        if self.rest.len() > self.length {
+            return Err(SingleFault::BytesLeft { place: HEADER + self.length });
+        }
+        Ok(())
     }
 
     // The rule under this header, which stands at `place`.
@@ -114,4 +141,24 @@ fn parts<'a>(frame: &'a [u8], place: usize, variables: u8, heads: usize, goals: 
     reader.terms(Form::Rules, variables, goals as usize)?;
     reader.finish()?;
     Ok(frame.split_at(size))
+}
+
+// Reads a rule that stands by itself.
+pub fn read_rule<'a>(bytes: &'a [u8]) -> Result<Rule<'a>, SingleFault>
+    ensures { λ r. ⌜ seen rule-view r ≡ seen (rule-shown 0) (grammar-rule (now (bytes .entry))) ⌝ }
+{
+    let header = Header::single(bytes, RULE)?;
+    let rule = header.rule(0)?;
+    header.end()?;
+    Ok(rule)
+}
+
+// Reads a query.
+pub fn read_query<'a>(bytes: &'a [u8]) -> Result<Query<'a>, SingleFault>
+    ensures { λ r. ⌜ seen query-view r ≡ seen query-shown (grammar-query (now (bytes .entry))) ⌝ }
+{
+    let header = Header::single(bytes, QUERY)?;
+    let query = header.query()?;
+    header.end()?;
+    Ok(query)
 }
