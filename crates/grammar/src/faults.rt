@@ -2,6 +2,7 @@
 ghost use mathlib.Core.Path.{_≡_};
 ghost use Rattle.grammar.specs.declared.faults.RuleFault.the-variants.{Command};
 ghost use Rattle.grammar.specs.declared.faults.SingleFault.the-variants.{Inside};
+ghost use Rattle.grammar.specs.declared.faults.BookFault.the-variants.{World};
 ghost use Rattle.grammar.specs.Refusals.{command-number, command-place, command-layer, rule-number, rule-place, rule-layer, single-number, single-place, single-layer, book-number, book-place, book-layer, book-rule};
 
 // The layer of commands.
@@ -77,6 +78,15 @@ pub impl From<RuleFault> for SingleFault as SingleFromRule {
 
     fn from(e: RuleFault) -> SingleFault {
         SingleFault::Inside(e)
+    }
+}
+
+// A command of a book outside its rules is a world.
+pub impl From<CommandFault> for BookFault as BookFromCommand {
+    ghost converts = { λ e r. r ≡ World e };
+
+    fn from(e: CommandFault) -> BookFault {
+        BookFault::World(e)
     }
 }
 

@@ -3,3 +3,4 @@ mod Passing
 mod Parts
 mod Under
 mod Alone
+mod Numbered
