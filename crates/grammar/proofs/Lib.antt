@@ -1,3 +1,7 @@
 pub mod Taking
 pub mod Counting
 pub mod Encoded
+pub mod Framed
+pub mod Alone
+pub mod Rows
+pub mod Places

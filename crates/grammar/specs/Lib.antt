@@ -4,3 +4,4 @@ pub mod TermCommands
 pub mod Singles
 pub mod Items
 pub mod Encodings
+pub mod Laws

@@ -2,3 +2,4 @@
 // that it finds, and what reading gives. The definitions stand in specs/.
 pub mod commands;
 pub mod faults;
+pub mod laws;
