@@ -173,7 +173,7 @@ single-inside {T} byte due make (b ∷ bs) e h = ask-place single-place (suc (le
 
 -- ── a book ──
 
-item-inside : (n p b : ℕ) (bs : List ℕ) (i : Item) (k : ℕ) → item n p b bs ≡ Ok (i, k) → k ≤ length bs
+pub item-inside : (n p b : ℕ) (bs : List ℕ) (i : Item) (k : ℕ) → item n p b bs ≡ Ok (i, k) → k ≤ length bs
 item-inside n p b bs i k e = by (eqb b rule-byte) (eqb b world-byte) e
   where
     in-world : (bs : List ℕ) → world-item p bs ≡ Ok (i, k) → k ≤ length bs

@@ -2,7 +2,7 @@
 use mathlib.Core.Path.{_≡_, refl, sym, ap, ap₂, subst, _∙_}
 use mathlib.Core.Bool.{Bool, true, false, cond}
 use mathlib.Core.List.{List, [], _∷_, _++_, append-nil, append-assoc}
-use Prim.Native.Nat.{ℕ, zero, suc, _+_, _-_, _≤_, _<_}
+use Prim.Native.Nat.{ℕ, zero, suc, _+_, _-_, max, _≤_, _<_}
 use native.Mathlib.Nat.{add-zero}
 use native.Mathlib.Omega.{arith}
 use lib.Dec.{eqb, leb, ltb}
@@ -35,7 +35,7 @@ pub record Item-read (n b : ℕ) (bs : List ℕ) (i : Item) (k : ℕ) : Type 0 w
   pub inside : k ≤ length bs
   pub size : length (item-bytes i) ≡ suc k
   pub fit : Fit-item i
-  pub room : n ≤ most-rules → n + counts i ≤ most-rules
+  pub room : n + counts i ≤ max n most-rules
 
 -- the rule over terms that were read under a header
 rule-over : (v g : ℕ) (ts : List Term) → length ts ≡ suc g → Within v g ts → Fit-rule (rule-of v ts) × (rule-bytes (rule-of v ts) ≡ framed rule-byte v g ts)
@@ -71,7 +71,7 @@ rule-read n p b bs i k t a e =
            ; inside = omega (arith, ap length (hd .0), bd .inside)
            ; size = omega (arith, long, w .1)
            ; fit = subst Fit-item is (r .0)
-           ; room = λ m. subst (λ x. n + counts x ≤ most-rules) is (omega (arith, ltb-true n most-rules (q4 .0))) }
+           ; room = subst (λ x. n + counts x ≤ max n most-rules) is (omega (arith, ltb-true n most-rules (q4 .0))) }
 
 world-read : (n p b : ℕ) (bs : List ℕ) (i : Item) (k : ℕ) → b ≡ world-byte → All-bytes bs → world-item p bs ≡ Ok (i, k) → Item-read n b bs i k
 world-read n p b [] i k t a e = let z : _≡_ {A = ℕ} 0 1 = cc in absurd (omega arith)
@@ -83,7 +83,7 @@ world-read n p b (w ∷ bs) i k t a e =
            ; inside = omega arith
            ; size = ap (λ x. length (item-bytes x)) (sym is) ∙ omega arith
            ; fit = subst Fit-item is (a .0)
-           ; room = λ m. subst (λ x. n + counts x ≤ most-rules) is (omega arith) }
+           ; room = subst (λ x. n + counts x ≤ max n most-rules) is (omega arith) }
 
 pub item-read : (n p b : ℕ) (bs : List ℕ) (i : Item) (k : ℕ) → All-bytes bs → item n p b bs ≡ Ok (i, k) → Item-read n b bs i k
 item-read n p b bs i k a e = by (eqb b rule-byte) (eqb b world-byte) refl refl e
@@ -204,7 +204,7 @@ comes (suc m) n p (b ∷ bs) l a r = by (item n p b bs) refl (λ n p bs l a r. c
         let h = item-read n p b bs i k (a .1) e in
         subst (Came n p (b ∷ bs)) (sym (one-more n p b bs i k (h .inside) e))
         (item-more n p b bs i k (items-past (n + counts i) 0 (p + suc k) (drop k bs)) h
-        (again (n + counts i) (p + suc k) (drop k bs) (omega (arith, length-drop k bs)) (bytes-drop k bs (a .1)) (h .room r)))
+        (again (n + counts i) (p + suc k) (drop k bs) (omega (arith, length-drop k bs)) (bytes-drop k bs (a .1)) (omega (arith, h .room))))
     by (Err x) e again =
         subst (Came n p (b ∷ bs)) (sym (no-more n p b bs x e))
         (record { before = []; first = b; rest = bs; split = refl; fit = tt; room = omega arith

@@ -4,3 +4,5 @@ mod Parts
 mod Under
 mod Alone
 mod Numbered
+mod Sizes
+mod Whole

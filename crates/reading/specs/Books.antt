@@ -1,8 +1,8 @@
 -- A book as it is read, item by item. Assumes nothing.
 use mathlib.Core.List.{List, [], _∷_}
-use Prim.Native.Nat.{ℕ, _+_}
+use Prim.Native.Nat.{ℕ, _+_, max, _≤_}
 use lib.Dec.{leb, ltb}
-use lib.ListN.{length}
+use lib.ListN.{length, drop}
 use denote.Ref.{now}
 use Rattle.std.specs.Options.{mapped}
 use Rattle.std.specs.declared.option.Option.{Option}
@@ -15,7 +15,7 @@ use Rattle.grammar.specs.declared.faults.BookFault.{BookFault}
 use Rattle.grammar.specs.declared.faults.BookFault.the-variants.{Rule as InRule, TooLong, TooManyRules}
 use Rattle.grammar.specs.Asking.{ask, go}
 use Rattle.grammar.specs.Singles.{Header, header, body, rule-due, rule-of}
-use Rattle.grammar.specs.Items.{Item, world, rule, item, counts, most-bytes, most-rules}
+use Rattle.grammar.specs.Items.{Item, world, rule, item, counts, rules, most-bytes, most-rules}
 use Rattle.reading.specs.declared.books.Item.{Item as Read-item}
 use Rattle.reading.specs.declared.books.Item.the-variants.{World as Read-world, Rule as Read-rule}
 use Rattle.reading.specs.declared.books.Book.{Book as Read-book}
@@ -77,7 +77,38 @@ counted (Ok (Some i)) = counts (i .0)
 counted (Ok None) = 0
 counted (Err e) = 0
 
--- how many bytes an item has
+-- the book after its next item; a fault leaves it as it was
+abbrev pub next-of : Book-view → Result (Option (Item × ℕ)) BookFault
+next-of b = first-item (b .rules) (b .place) (drop (b .place) (b .bytes))
+
+abbrev pub after-item : Book-view → Book-view
+after-item b = record { bytes = b .bytes; place = b .place + passed (next-of b); rules = b .rules + counted (next-of b) }
+
+-- how many bytes an item has, and how many rules it is
 abbrev pub item-size : Item-view → ℕ
 item-size (world-seen w p) = 2
 item-size (rule-seen r) = 5 + length (r .head) + length (r .body)
+
+abbrev pub item-count : Item-view → ℕ
+item-count (world-seen w p) = 0
+item-count (rule-seen r) = 1
+
+-- an item with its number of bytes
+abbrev pub sized-view : Read-item × ℕ → Item-view × ℕ
+sized-view x = (item-view (x .0), x .1)
+
+abbrev pub sized-shown : ℕ → Item × ℕ → Item-view × ℕ
+sized-shown p i = (item-shown p (i .0), 1 + i .1)
+
+abbrev pub sized-first : ℕ → Result (Option (Item × ℕ)) BookFault → Result (Option (Item-view × ℕ)) BookFault
+sized-first p r = seen (mapped (sized-shown p)) r
+
+-- an item lies inside the bytes, and its rules can be counted
+abbrev pub Inside : ℕ → ℕ → Result (Option (Item-view × ℕ)) BookFault → Type 0
+Inside n l (Ok (Some x)) = (x .1 ≤ l) × (n + item-count (x .0) ≤ max n most-rules)
+Inside n l (Ok None) = Unit {0}
+Inside n l (Err e) = Unit {0}
+
+-- the number of rules of a book
+abbrev pub rule-count : List Item → ℕ
+rule-count is = length (rules is)

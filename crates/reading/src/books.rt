@@ -7,7 +7,7 @@ ghost use Rattle.std.specs.Vec.{made};
 ghost use Rattle.grammar.specs.Items.{item as grammar-item, book as grammar-book, rules as rules-of};
 ghost use Rattle.reading.specs.Views.{seen, header-view, rule-view};
 ghost use Rattle.reading.specs.Taking.{one-byte};
-ghost use Rattle.reading.specs.Books.{numbered-by, rule-header, rule-item-shown, item-view, item-shown, item-size, Book-view, book-view, opened, first-item, shown-first, passed, counted};
+ghost use Rattle.reading.specs.Books.{numbered-by, rule-header, rule-item-shown, item-view, item-shown, item-size, Book-view, book-view, opened, first-item, shown-first, item-count, sized-view, sized-first, Inside, next-of, after-item, rule-count};
 use crate::rules::Header;
 use crate::rules::RULE;
 use crate::rules::Rule;
@@ -95,4 +95,92 @@ fn item_at<'a>(bytes: &'a [u8], place: usize, rules: u16) -> Result<Option<Item<
         return Ok(Some(Item::World { number, place }));
     }
     Err(BookFault::NoItem { place })
+}
+
+impl Item<'_> {
+    // How many bytes it has.
+    fn size(&self) -> usize
+        requires { ⌜ item-size (item-view (now self)) < 2 ^ 64 ⌝ }
+        ensures { λ r. ⌜ r ≡ item-size (item-view (now (self .entry))) ⌝ }
+    {
+        match self {
+            Item::World { .. } => 2,
+            Item::Rule(rule) => 5 + rule.head.len() + rule.body.len(),
+        }
+    }
+
+    // How many rules it is.
+    fn count(&self) -> u16
+        ensures { λ r. ⌜ r ≡ item-count (item-view (now (self .entry))) ⌝ }
+    {
+        match self {
+            Item::World { .. } => 0,
+            Item::Rule(_) => 1,
+        }
+    }
+}
+
+// The item that `bytes` begin with, and how many bytes it has.
+fn sized_item<'a>(bytes: &'a [u8], place: usize, rules: u16) -> Result<Option<(Item<'a>, usize)>, BookFault>
+    requires { ⌜ place + length (now bytes) < 2 ^ 64 ⌝ }
+    ensures value { λ r. ⌜ seen (mapped sized-view) r ≡ sized-first place (first-item rules place (now (bytes .entry))) ⌝ }
+    ensures inside { λ r. ⌜ Inside rules (length (now (bytes .entry))) (seen (mapped sized-view) r) ⌝ }
+{
+    let Some(item) = item_at(bytes, place, rules)? else {
+        return Ok(None);
+    };
+    let size = item.size();
+    Ok(Some((item, size)))
+}
+
+impl<'a> Book<'a> {
+    // A book over these bytes, before its first item.
+    pub fn open(bytes: &'a [u8]) -> Result<Book<'a>, BookFault>
+        ensures { λ r. ⌜ seen book-view r ≡ opened (now (bytes .entry)) ⌝ }
+    {
+        if bytes.len() > MOST_BYTES {
+            return Err(BookFault::TooLong);
+        }
+        Ok(Book { bytes, place: 0, rules: 0 })
+    }
+
+    // The place of the next item.
+    pub fn place(&self) -> usize
+        ensures { λ r. ⌜ r ≡ now (self .entry) .place ⌝ }
+    {
+        self.place
+    }
+
+    // The number of rules before the next item.
+    pub fn rules(&self) -> u16
+        ensures { λ r. ⌜ r ≡ now (self .entry) .rules ⌝ }
+    {
+        self.rules
+    }
+
+    // The next item, or nothing at the end. A fault leaves the book where it was.
+    pub fn item(&mut self) -> Result<Option<Item<'a>>, BookFault>
+        ensures value { λ r. ⌜ seen (mapped item-view) r ≡ shown-first (now (self .entry) .place) (next-of (book-view (now (self .entry)))) ⌝ }
+        ensures after { λ _. ⌜ book-view (now (self .exit)) ≡ after-item (book-view (now (self .entry))) ⌝ }
+    {
+        let place = self.place;
+        if place >= self.bytes.len() {
+            return Ok(None);
+        }
+        let Some((item, size)) = sized_item(&self.bytes[place..], place, self.rules)? else {
+            return Ok(None);
+        };
+        self.place = place + size;
+        self.rules += item.count();
+        Ok(Some(item))
+    }
+}
+
+// How many rules a book has.
+pub fn count_rules(bytes: &[u8]) -> Result<u16, BookFault>
+    ensures { λ r. ⌜ r ≡ seen rule-count (grammar-book (now (bytes .entry))) ⌝ }
+{
+    let mut book = Book::open(bytes)?;
+    while let Some(_) = book.item()? {}
+    Ok(book.rules())
 }
