@@ -1,0 +1,5 @@
+pub mod Variables
+pub mod Ground
+pub mod Substitutions
+pub mod Unification
+pub mod Laws
