@@ -6,17 +6,14 @@ ghost use Rattle.unification.specs.Laws.{Unifies, Most-general, Recursive};
 // What unification finds makes the two terms equal.
 pub fn unifies()
     ensures { λ _. ⌜ Unifies ⌝ }
-{
-}
+{}
 
 // Every replacement that makes the two terms equal is kept by what unification finds.
 pub fn most_general()
     ensures { λ _. ⌜ Most-general ⌝ }
-{
-}
+{}
 
 // Unification meets its recursion equation without any bound.
 pub fn recursive()
     ensures { λ _. ⌜ Recursive ⌝ }
-{
-}
+{}
