@@ -6,3 +6,4 @@ pub mod Lines
 pub mod Search
 pub mod Calls
 pub mod Examples
+pub mod Laws
