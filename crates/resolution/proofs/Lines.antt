@@ -97,7 +97,7 @@ module _ (rs : List Rule) (P : ℕ → Place → End → Type 0)
 module _ (rs : List Rule) (J : Place → Type 0)
     (on-back : (g : Term) (rest : List Term) (due : ℕ) (cells : List Term) (f : Step) (fs : List Step) → length rs ≤ due → J (at (g ∷ rest) due cells (f ∷ fs)) → J (before f fs))
     (on-try : (g : Term) (rest : List Term) (due : ℕ) (cells : List Term) (fs : List Step) → due < length rs → stop rs (at (g ∷ rest) due cells fs) ≡ none
-      → J (at (g ∷ rest) due cells fs) → J (tried rs (at (g ∷ rest) due cells fs) g rest)) where
+    → J (at (g ∷ rest) due cells fs) → J (tried rs (at (g ∷ rest) due cells fs) g rest)) where
   abbrev Goes : Turn → Type 0
   Goes (ends w) = Unit {0}
   Goes (goes-on l p) = J p
@@ -173,5 +173,5 @@ module _ (rs : List Rule) where
   lines-left left p =
       lines-by rs (λ l p e. e .left ≤ l) (λ l p w e. omega arith)
       (λ l p l′ p′ e eq ih.
-        let h : l′ ≤ l = subst (Ends l p) eq (line-ends l (p .goals) (p .due) (p .cells) (p .branch)) in
-        omega (arith, h, ih)) left p
+      let h : l′ ≤ l = subst (Ends l p) eq (line-ends l (p .goals) (p .due) (p .cells) (p .branch)) in
+      omega (arith, h, ih)) left p

@@ -71,20 +71,20 @@ pub record Worked : Type 0 where
   pub path-rules : answered chain from-5 (1000 ∷ 1000 ∷ 1000 ∷ []) ≡ (3 ∷ 0 ∷ 2 ∷ 1 ∷ []) ∷ (2 ∷ 0 ∷ []) ∷ []
   pub path-cells : map (λ (p : Place). p .cells) (session chain from-5 (nexts (4 ∷ [])) .given) ≡ (atom 6 ∷ atom 5 ∷ atom 6 ∷ []) ∷ []
   pub path-parts :
-    run chain from-5 (nexts (3 ∷ 0 ∷ 1 ∷ 9 ∷ 1 ∷ 21 ∷ 1 ∷ []))
-    ≡ says Spent 3 ∷ says Spent 0 ∷ says Answer 1 ∷ says Spent 9 ∷ says Answer 1 ∷ says Spent 21 ∷ says NoMore 1 ∷ []
+      run chain from-5 (nexts (3 ∷ 0 ∷ 1 ∷ 9 ∷ 1 ∷ 21 ∷ 1 ∷ []))
+      ≡ says Spent 3 ∷ says Spent 0 ∷ says Answer 1 ∷ says Spent 9 ∷ says Answer 1 ∷ says Spent 21 ∷ says NoMore 1 ∷ []
   pub path-tallies :
-    run chain from-5 (ask-tally ∷ ask-next 4 ∷ ask-tally ∷ ask-next 1000001 ∷ ask-next 10 ∷ ask-tally ∷ ask-rewind ∷ ask-tally ∷ ask-next 4 ∷ [])
-    ≡ told (record { tries = 0; answers = 0; steps = 0; cells = 1 })
-    ∷ says Answer 4
-    ∷ told (record { tries = 4; answers = 1; steps = 2; cells = 3 })
-    ∷ said (Err Allowance)
-    ∷ says Answer 10
-    ∷ told (record { tries = 14; answers = 2; steps = 4; cells = 6 })
-    ∷ restored
-    ∷ told (record { tries = 0; answers = 0; steps = 0; cells = 1 })
-    ∷ says Answer 4
-    ∷ []
+      run chain from-5 (ask-tally ∷ ask-next 4 ∷ ask-tally ∷ ask-next 1000001 ∷ ask-next 10 ∷ ask-tally ∷ ask-rewind ∷ ask-tally ∷ ask-next 4 ∷ [])
+      ≡ told (record { tries = 0; answers = 0; steps = 0; cells = 1 })
+      ∷ says Answer 4
+      ∷ told (record { tries = 4; answers = 1; steps = 2; cells = 3 })
+      ∷ said (Err Allowance)
+      ∷ says Answer 10
+      ∷ told (record { tries = 14; answers = 2; steps = 4; cells = 6 })
+      ∷ restored
+      ∷ told (record { tries = 0; answers = 0; steps = 0; cells = 1 })
+      ∷ says Answer 4
+      ∷ []
   pub occurs-in-it : run twins inside-itself (nexts (1000 ∷ [])) ≡ says NoMore 1 ∷ []
   pub nothing-to-show : run [] no-goals (nexts (0 ∷ 0 ∷ [])) ≡ says Answer 0 ∷ says NoMore 0 ∷ []
   pub spent-at-512 : run (circle 5 0 ∷ []) (ask-circle 5 0) (nexts (512 ∷ [])) ≡ says Spent 512 ∷ []

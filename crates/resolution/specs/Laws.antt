@@ -69,7 +69,7 @@ abbrev pub Splits : Type 0
 Splits =
     (rs : List Rule) (a b : ℕ) (s : Search) → a + b ≤ allowance-limit → Says Spent (next rs a s .result)
     → let then : Called = next rs b (next rs a s .search) in
-      next rs (a + b) s ≡ record { result = more-tries a (then .result); search = then .search }
+    next rs (a + b) s ≡ record { result = more-tries a (then .result); search = then .search }
 
 -- ── lists of calls ──
 
@@ -164,4 +164,4 @@ abbrev pub Tallies : Type 0
 Tallies =
     (rs : List Rule) (q : Query) (calls : List Call)
     → let s : Search = session rs q calls .search in
-      (s .tries ≡ held (tries-in 0 (run rs q calls))) × (s .answers ≡ held (answers-in 0 (run rs q calls)))
+    (s .tries ≡ held (tries-in 0 (run rs q calls))) × (s .answers ≡ held (answers-in 0 (run rs q calls)))
