@@ -92,10 +92,10 @@ module _ (rs : List Rule) (b : ℕ) where
   lines-more left p =
       lines-by rs (λ l p e. e .word ≡ Spent → lines rs (l + b) p ≡ lines rs b (e .place))
       (λ l p w e k.
-        let z : l ≡ 0 = subst (λ (v : Word). Final rs v l p) k (ended-at l p w e) in
-        ap (λ (n : ℕ). lines rs n p) (omega (arith, z)))
+      let z : l ≡ 0 = subst (λ (v : Word). Final rs v l p) k (ended-at l p w e) in
+      ap (λ (n : ℕ). lines rs n p) (omega (arith, z)))
       (λ l p l′ p′ e eq ih k.
-        one-by-one rs (l + b) p ∙ ap (onward (lines rs) (l + b) p) (subst (λ (t : Turn). More b t (line rs (l + b) p)) eq (line-more l p (p .goals))) ∙ ih k) left p
+      one-by-one rs (l + b) p ∙ ap (onward (lines rs) (l + b) p) (subst (λ (t : Turn). More b t (line rs (l + b) p)) eq (line-more l p (p .goals))) ∙ ih k) left p
     where
       ended-at : (l : ℕ) (p : Place) (w : Word) → line rs l p ≡ ends w → Final rs w l p
       ended-at l p w e =
@@ -126,7 +126,7 @@ module _ (rs : List Rule) (a b : ℕ) (s : Search) where
 
   settled-splits : (w : Word) (left : ℕ) (p : Place) (e′ : End) → w ≡ Spent → Final rs w left p → e′ ≡ lines rs b p
       → let t : Search = settled a s (record { word = w; left = left; place = p }) .search in
-        settled (a + b) s e′ ≡ joined a (continued rs b t (t .condition))
+      settled (a + b) s e′ ≡ joined a (continued rs b t (t .condition))
   unfolding Is-spent
   settled-splits Answer left p e′ k f h = absurd (subst Is-spent (sym k) tt)
   settled-splits Spent left p e′ k f h =
@@ -142,7 +142,7 @@ module _ (rs : List Rule) (a b : ℕ) (s : Search) where
 
   leaving-splits : (p : Place) (fs : List Step) → onward (lines rs) a p (back a fs) .word ≡ Spent
       → let t : Search = settled a s (onward (lines rs) a p (back a fs)) .search in
-        settled (a + b) s (onward (lines rs) (a + b) p (back (a + b) fs)) ≡ joined a (continued rs b t (t .condition))
+      settled (a + b) s (onward (lines rs) (a + b) p (back (a + b) fs)) ≡ joined a (continued rs b t (t .condition))
   unfolding Is-spent
   leaving-splits p [] k = absurd (subst Is-spent (sym k) tt)
   leaving-splits p (f ∷ fs) k = lines-split (before f fs) k

@@ -5,3 +5,9 @@ pub mod Sessions
 pub mod Cells
 pub mod Order
 pub mod Limits
+pub mod Follows
+pub mod Declared
+pub mod Steps
+pub mod Soundness
+pub mod Completeness
+pub mod Counts

@@ -26,7 +26,7 @@ pub stop-room : (rs : List Rule) (p : Place) → Room rs p (stop rs p)
 stop-room rs p =
     cond-by (Room rs p) (leb step-limit (length (p .branch))) (λ _. tt)
     (λ h. cond-by (Room rs p) (ltb (cell-limit - length (p .cells)) (rule rs (p .due) .variables)) (λ _. tt)
-      (λ k. (nleb→lt step-limit (length (p .branch)) h, nltb→le (cell-limit - length (p .cells)) (rule rs (p .due) .variables) k)))
+    (λ k. (nleb→lt step-limit (length (p .branch)) h, nltb→le (cell-limit - length (p .cells)) (rule rs (p .due) .variables) k)))
 
 abbrev Limited : List Term → List Term → List Step → Type 0
 Limited goals cells fs = (length fs ≤ step-limit) × (length cells ≤ cell-limit)
@@ -34,7 +34,7 @@ Limited goals cells fs = (length fs ≤ step-limit) × (length cells ≤ cell-li
 limited-stays : (rs : List Rule) → Stays rs Limited
 limited-stays rs g rest due cells fs σ l s e h =
     let r : Room rs (record { goals = g ∷ rest; due = due; cells = cells; branch = fs }) none =
-          subst (Room rs (record { goals = g ∷ rest; due = due; cells = cells; branch = fs })) s (stop-room rs (record { goals = g ∷ rest; due = due; cells = cells; branch = fs })) in
+    subst (Room rs (record { goals = g ∷ rest; due = due; cells = cells; branch = fs })) s (stop-room rs (record { goals = g ∷ rest; due = due; cells = cells; branch = fs })) in
     (omega (arith, r .0), omega (arith, h .1, r .1, step-length σ cells (rule rs due .variables)))
 
 pub within-limits : Within-limits

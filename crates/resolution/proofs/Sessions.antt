@@ -112,7 +112,9 @@ module _ (rs : List Rule) (I : Statement) (stays : Stays rs I) where
   continued-kept a s ps t h ended = record { now-kept = t; given-kept = h }
   continued-kept a s ps t h (stopped why) = record { now-kept = t; given-kept = h }
 
+  pub next-kept : (a : ℕ) (z : Session) → Kept z → Kept (called (next rs a (z .search)) (z .given))
+  next-kept a z k = next-by rs Kept a z k (continued-kept a (z .search) (z .given) (k .now-kept) (k .given-kept) (z .search .condition))
+
   pub all-kept : (q : Query) → I (q .goals) (fresh 0 (q .variables)) [] → (cs : List Call) → Kept (session rs q cs)
   all-kept q i =
-      sessions-keep rs q Kept (record { now-kept = (i, tt); given-kept = tt })
-      (λ a z k. next-by rs Kept a z k (continued-kept a (z .search) (z .given) (k .now-kept) (k .given-kept) (z .search .condition)))
+      sessions-keep rs q Kept (record { now-kept = (i, tt); given-kept = tt }) next-kept
