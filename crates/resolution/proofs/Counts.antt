@@ -15,7 +15,7 @@ use Rattle.resolution.specs.declared.Refusal.{Refusal}
 use Rattle.resolution.specs.Limits.{allowance-limit, tally-limit}
 use Rattle.resolution.specs.Lines.{back, End, onward, lines}
 use Rattle.resolution.specs.Search.{Condition, running, standing, ended, stopped, Search, held, answers-after, Called, settled, refused, continued, next}
-use Rattle.resolution.specs.Calls.{Call, ask-next, ask-rewind, ask-tally, Reply, said, reply, Session, begun, after-call, after-calls, replies}
+use Rattle.resolution.specs.Calls.{Call, ask-next, ask-rewind, ask, Reply, said, reply, Session, begun, after-call, after-calls, replies}
 use Rattle.resolution.specs.Laws.{tries-in, one-if-answer, answers-in, Tallies}
 
 -- the counts of a search stand at n tries and m answers
@@ -64,7 +64,7 @@ module _ (rs : List Rule) (q : Query) where
       next-told (after-call rs q (ask-next a) z) cs n m (next rs a (z .search) .search) (next rs a (z .search) .result) (next-adds rs a (z .search) n m h)
       (calls-told cs (after-call rs q (ask-next a) z))
   calls-told (ask-rewind ∷ cs) z n m h = calls-told cs (after-call rs q ask-rewind z) 0 0 (record { tries-at = refl; answers-at = refl })
-  calls-told (ask-tally ∷ cs) z n m h = calls-told cs z n m h
+  calls-told (ask l ∷ cs) z n m h = calls-told cs z n m h
 
 pub tallies : Tallies
 tallies rs q calls =

@@ -11,3 +11,5 @@ pub mod Steps
 pub mod Soundness
 pub mod Completeness
 pub mod Counts
+pub mod Ended
+pub mod Turns

@@ -17,7 +17,7 @@ use Rattle.resolution.specs.Cells.{fresh}
 use Rattle.resolution.specs.Limits.{allowance-limit}
 use Rattle.resolution.specs.Lines.{Step, Place, before, back, stop, landed, tried, End, onward, lines}
 use Rattle.resolution.specs.Search.{Condition, running, standing, ended, stopped, Search, Called, settled, continued, next}
-use Rattle.resolution.specs.Calls.{Call, ask-next, ask-rewind, ask-tally, Session, begun, given-by, called, after-call, after-calls, session}
+use Rattle.resolution.specs.Calls.{Call, ask-next, ask-rewind, ask, Session, begun, given-by, called, after-call, after-calls, session}
 use Rattle.resolution.specs.Laws.{Each}
 use Rattle.resolution.proofs.Lines.{at, Final, lines-keep, lines-final}
 
@@ -26,7 +26,7 @@ module _ (rs : List Rule) (q : Query) (P : Session → Type 0) (start : P (begun
   call-keeps : (c : Call) (z : Session) → P z → P (after-call rs q c z)
   call-keeps (ask-next a) z h = step a z h
   call-keeps ask-rewind z h = start
-  call-keeps ask-tally z h = h
+  call-keeps (ask l) z h = h
 
   calls-keep : (cs : List Call) (z : Session) → P z → P (after-calls rs q cs z)
   calls-keep [] z h = h

@@ -24,7 +24,7 @@ own-replaced γ cells n [] = refl
 own-replaced γ cells n (t ∷ ts) = ap₂ _∷_ (replaced-present γ cells n t) (own-replaced γ cells n ts)
 
 -- where the goals that remain follow, the query's do, by the steps
-resolved-follows : (rs : List Rule) (q : Query) (cells : List Term) (γ : Replacement) (n : ℕ) (fs : List Step) (goals : List Term) → Inside rs n fs → Resolved rs q cells fs goals
+pub resolved-follows : (rs : List Rule) (q : Query) (cells : List Term) (γ : Replacement) (n : ℕ) (fs : List Step) (goals : List Term) → Inside rs n fs → Resolved rs q cells fs goals
     → All-follow rs (all-replaced γ goals) → All-follow rs (all-replaced γ (map (present cells) (q .goals)))
 resolved-follows rs q cells γ n [] goals i e a = subst (λ (l : List Term). All-follow rs (all-replaced γ l)) e a
 resolved-follows rs q cells γ n (f ∷ fs) goals i (rest, e, r) a =

@@ -12,21 +12,32 @@ use Rattle.resolution.specs.declared.Tally.{Tally}
 use Rattle.resolution.specs.Lines.{Place}
 use Rattle.resolution.specs.Search.{Search, opened, Called, next, rewind, tally}
 
--- a call that may be asked of a search
+-- a call that only looks at the search and leaves it as it was
+pub data Look : Type 0 where
+  at-tally : Look
+
+-- what such a call returns
+pub data Seen : Type 0 where
+  seen-tally : Tally → Seen
+
+abbrev pub seen : Look → Search → Seen
+seen at-tally s = seen-tally (tally s)
+
 pub data Call : Type 0 where
   ask-next : ℕ → Call
-  ask-rewind ask-tally : Call
+  ask-rewind : Call
+  ask : Look → Call
 
 -- what a call returns
 pub data Reply : Type 0 where
   said : Result Outcome Refusal → Reply
   restored : Reply
-  told : Tally → Reply
+  saw : Seen → Reply
 
 abbrev pub reply : List Rule → Call → Search → Reply
 reply rs (ask-next a) s = said (next rs a s .result)
 reply rs ask-rewind s = restored
-reply rs ask-tally s = told (tally s)
+reply rs (ask l) s = saw (seen l s)
 
 -- a search with the places of the answers that it gave since opening or the last rewind, newest first
 pub record Session : Type 0 where
@@ -50,11 +61,11 @@ given-with (Err e) p ps = ps
 abbrev pub called : Called → List Place → Session
 called c ps = record { search = c .search; given = given-with (c .result) (c .search .place) ps }
 
--- the session after a call; tally leaves it as it is
+-- the session after a call
 abbrev pub after-call : List Rule → Query → Call → Session → Session
 after-call rs q (ask-next a) z = called (next rs a (z .search)) (z .given)
 after-call rs q ask-rewind z = record { search = rewind q (z .search); given = [] }
-after-call rs q ask-tally z = z
+after-call rs q (ask l) z = z
 
 abbrev pub after-calls : List Rule → Query → List Call → Session → Session
 after-calls rs q [] z = z

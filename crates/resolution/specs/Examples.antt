@@ -8,8 +8,9 @@ use Rattle.resolution.specs.declared.Stop.the-variants.{Deep, Cells}
 use Rattle.resolution.specs.declared.Word.{Word}
 use Rattle.resolution.specs.declared.Word.the-variants.{Answer, Spent, Stopped, NoMore}
 use Rattle.resolution.specs.declared.Refusal.the-variants.{Allowance}
+use Rattle.resolution.specs.declared.Tally.{Tally}
 use Rattle.resolution.specs.Lines.{Place, rules-taken}
-use Rattle.resolution.specs.Calls.{Call, ask-next, ask-rewind, ask-tally, Reply, said, restored, told, session, run}
+use Rattle.resolution.specs.Calls.{at-tally, seen-tally, Call, ask-next, ask-rewind, ask, Reply, said, restored, saw, session, run}
 
 -- the list of the terms a, and of a, b and c, which ends in atom 0
 abbrev pub list-of-1 : Term → Term
@@ -58,6 +59,10 @@ ask-circle a v = record { variables = v; goals = list-of-1 (atom a) ∷ [] }
 abbrev pub says : Word → ℕ → Reply
 says w n = said (Ok (record { word = w; tries = n }))
 
+-- tally told these counts
+abbrev pub counts : Tally → Reply
+counts t = saw (seen-tally t)
+
 -- calls of next with these allowances
 abbrev pub nexts : List ℕ → List Call
 nexts = map ask-next
@@ -74,15 +79,15 @@ pub record Worked : Type 0 where
       run chain from-5 (nexts (3 ∷ 0 ∷ 1 ∷ 9 ∷ 1 ∷ 21 ∷ 1 ∷ []))
       ≡ says Spent 3 ∷ says Spent 0 ∷ says Answer 1 ∷ says Spent 9 ∷ says Answer 1 ∷ says Spent 21 ∷ says NoMore 1 ∷ []
   pub path-tallies :
-      run chain from-5 (ask-tally ∷ ask-next 4 ∷ ask-tally ∷ ask-next 1000001 ∷ ask-next 10 ∷ ask-tally ∷ ask-rewind ∷ ask-tally ∷ ask-next 4 ∷ [])
-      ≡ told (record { tries = 0; answers = 0; steps = 0; cells = 1 })
+      run chain from-5 (ask at-tally ∷ ask-next 4 ∷ ask at-tally ∷ ask-next 1000001 ∷ ask-next 10 ∷ ask at-tally ∷ ask-rewind ∷ ask at-tally ∷ ask-next 4 ∷ [])
+      ≡ counts (record { tries = 0; answers = 0; steps = 0; cells = 1 })
       ∷ says Answer 4
-      ∷ told (record { tries = 4; answers = 1; steps = 2; cells = 3 })
+      ∷ counts (record { tries = 4; answers = 1; steps = 2; cells = 3 })
       ∷ said (Err Allowance)
       ∷ says Answer 10
-      ∷ told (record { tries = 14; answers = 2; steps = 4; cells = 6 })
+      ∷ counts (record { tries = 14; answers = 2; steps = 4; cells = 6 })
       ∷ restored
-      ∷ told (record { tries = 0; answers = 0; steps = 0; cells = 1 })
+      ∷ counts (record { tries = 0; answers = 0; steps = 0; cells = 1 })
       ∷ says Answer 4
       ∷ []
   pub occurs-in-it : run twins inside-itself (nexts (1000 ∷ [])) ≡ says NoMore 1 ∷ []

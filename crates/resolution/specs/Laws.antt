@@ -15,11 +15,11 @@ use Rattle.resolution.specs.declared.Outcome.{Outcome}
 use Rattle.resolution.specs.declared.Refusal.{Refusal}
 use Rattle.resolution.specs.Rules.{rule, Well-declared}
 use Rattle.resolution.specs.Follows.{Query-follows}
-use Rattle.resolution.specs.Cells.{present, Covers}
+use Rattle.resolution.specs.Cells.{fresh, present, Covers}
 use Rattle.resolution.specs.Limits.{cell-limit, step-limit, allowance-limit}
 use Rattle.resolution.specs.Lines.{Step, Place, rules-taken, line, onward, lines}
 use Rattle.resolution.specs.Search.{Condition, running, standing, ended, stopped, Search, held, Called, refused, continued, next}
-use Rattle.resolution.specs.Calls.{Call, Reply, said, restored, told, session, run}
+use Rattle.resolution.specs.Calls.{Call, Reply, said, restored, saw, session, run}
 
 -- ── one call ──
 
@@ -96,9 +96,9 @@ None-means-none =
 -- the second list comes after the first in dictionary order
 abbrev pub Later : List ℕ → List ℕ → Type 0
 Later [] [] = ⊥
-Later [] (b ∷ bs) = Unit {0}
-Later (a ∷ as′) [] = ⊥
-Later (a ∷ as′) (b ∷ bs) = (a < b) ⊎ ((a ≡ b) × Later as′ bs)
+Later [] (b ∷ B) = Unit {0}
+Later (a ∷ A) [] = ⊥
+Later (a ∷ A) (b ∷ B) = (a < b) ⊎ ((a ≡ b) × Later A B)
 
 abbrev pub After-newest : Place → List Place → Type 0
 After-newest p [] = Unit {0}
@@ -132,6 +132,13 @@ Steps-fit =
     (rs : List Rule) (q : Query) → Well-declared rs q → (calls : List Call)
     → let p : Place = session rs q calls .search .place in Resolved rs q (p .cells) (p .branch) (p .goals)
 
+-- an ended search has no step, and its cells are the query's, as at opening
+abbrev pub Ended-bare : Type 0
+Ended-bare =
+    (rs : List Rule) (q : Query) (calls : List Call)
+    → let s : Search = session rs q calls .search in
+    s .condition ≡ ended → (s .place .branch ≡ []) × (s .place .cells ≡ fresh 0 (q .variables))
+
 -- steps and cells in use never exceed their limits
 abbrev pub Within-limits : Type 0
 Within-limits =
@@ -144,7 +151,7 @@ tries-in n [] = n
 tries-in n (said (Ok o) ∷ rs) = tries-in (n + o .tries) rs
 tries-in n (said (Err e) ∷ rs) = tries-in n rs
 tries-in n (restored ∷ rs) = tries-in 0 rs
-tries-in n (told t ∷ rs) = tries-in n rs
+tries-in n (saw v ∷ rs) = tries-in n rs
 
 abbrev pub one-if-answer : Word → ℕ
 one-if-answer Answer = 1
@@ -157,7 +164,7 @@ answers-in n [] = n
 answers-in n (said (Ok o) ∷ rs) = answers-in (n + one-if-answer (o .word)) rs
 answers-in n (said (Err e) ∷ rs) = answers-in n rs
 answers-in n (restored ∷ rs) = answers-in 0 rs
-answers-in n (told t ∷ rs) = answers-in n rs
+answers-in n (saw v ∷ rs) = answers-in n rs
 
 -- the tally tells the tries and answers of all calls since opening or the last rewind, each held at its limit
 abbrev pub Tallies : Type 0

@@ -2,7 +2,7 @@
 // shared by them and by the code that meets them, and each function carries a theorem in its contract.
 
 ghost use Rattle.resolution.specs.Examples.{Worked};
-ghost use Rattle.resolution.specs.Laws.{One-by-one, Refuses, Keeps-to-allowance, Splits, Sound, None-means-none, In-order, Steps-fit, Within-limits, Tallies};
+ghost use Rattle.resolution.specs.Laws.{One-by-one, Refuses, Keeps-to-allowance, Splits, Sound, None-means-none, In-order, Steps-fit, Within-limits, Ended-bare, Tallies};
 
 // Why a search stops for good.
 #[derive(Clone, Copy, PartialEq, Eq, Debug)]
@@ -93,6 +93,11 @@ pub fn steps_fit()
 // Steps and cells in use never exceed their limits.
 pub fn within_limits()
     ensures { λ _. ⌜ Within-limits ⌝ }
+{}
+
+// An ended search has no step in use, and the cells of the query's variables only.
+pub fn ended_bare()
+    ensures { λ _. ⌜ Ended-bare ⌝ }
 {}
 
 // The tally tells the tries and the answers of all calls since opening or the last rewind.
