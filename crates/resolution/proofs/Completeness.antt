@@ -20,8 +20,8 @@ use Rattle.unification.proofs.Ground.{all-replaced-by, all-replaced-append}
 use Rattle.resolution.specs.declared.Word.{Word}
 use Rattle.resolution.specs.declared.Word.the-variants.{Answer, Spent, Stopped, NoMore}
 use Rattle.resolution.specs.Rules.{rule, Well-declared}
-use Rattle.resolution.specs.Follows.{Follows, by-rule, All-follow, Query-follows}
-use Rattle.resolution.specs.Cells.{fresh, cell, Covers}
+use Rattle.resolution.specs.Follows.{Follows, by-rule, All-follow, Query-follows, Covers}
+use Rattle.resolution.specs.Cells.{fresh, cell}
 use Rattle.resolution.specs.Limits.{allowance-limit}
 use Rattle.resolution.specs.Lines.{Step, Place, before, back, stop, landed, tried, End, onward, lines}
 use Rattle.resolution.specs.Search.{Condition, running, standing, ended, stopped, Search, condition-after, Called, settled, continued, next}

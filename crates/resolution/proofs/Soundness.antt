@@ -8,8 +8,8 @@ use Rattle.unification.specs.Variables.{shifted}
 use Rattle.unification.specs.Ground.{Ground, Replacement, replaced, all-replaced}
 use Rattle.unification.proofs.Ground.{all-replaced-append}
 use Rattle.resolution.specs.Rules.{rule, Well-declared}
-use Rattle.resolution.specs.Follows.{by-rule, All-follow, no-goal, each-goal, Query-follows}
-use Rattle.resolution.specs.Cells.{cell, present, Covers}
+use Rattle.resolution.specs.Follows.{by-rule, All-follow, no-goal, each-goal, Query-follows, Covers}
+use Rattle.resolution.specs.Cells.{cell, present}
 use Rattle.resolution.specs.Lines.{Step, Place}
 use Rattle.resolution.specs.Laws.{Each, own-head, own-goals, Resolved, Sound}
 use Rattle.resolution.proofs.Follows.{left-follow, right-follow}

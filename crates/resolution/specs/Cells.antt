@@ -1,10 +1,8 @@
 -- The present terms of cells. Assumes nothing.
-use mathlib.Core.Path.{_≡_}
 use mathlib.Core.List.{List, [], _∷_}
-use Prim.Native.Nat.{ℕ, zero, suc, _<_}
+use Prim.Native.Nat.{ℕ, zero, suc}
 use lib.ListN.{getD}
 use Rattle.terms.specs.Terms.{Term, var, atom, pair}
-use Rattle.unification.specs.Ground.{Replacement, replaced}
 
 -- the terms of k fresh cells from the number n on: each is its own variable
 abbrev pub fresh : ℕ → ℕ → List Term
@@ -20,7 +18,3 @@ abbrev pub present : List Term → Term → Term
 present cells (var k) = cell cells k
 present cells (atom a) = atom a
 present cells (pair s t) = pair (present cells s) (present cells t)
-
--- the first n terms become those of the replacement θ when their own variables are replaced in some way
-abbrev pub Covers : ℕ → List Term → Replacement → Type 0
-Covers n terms θ = (γ : Replacement) × ((k : ℕ) → k < n → replaced γ (cell terms k) ≡ θ k)

@@ -14,8 +14,8 @@ use Rattle.resolution.specs.declared.Word.the-variants.{Answer, Spent, Stopped
 use Rattle.resolution.specs.declared.Outcome.{Outcome}
 use Rattle.resolution.specs.declared.Refusal.{Refusal}
 use Rattle.resolution.specs.Rules.{rule, Well-declared}
-use Rattle.resolution.specs.Follows.{Query-follows}
-use Rattle.resolution.specs.Cells.{fresh, present, Covers}
+use Rattle.resolution.specs.Follows.{Query-follows, Covers}
+use Rattle.resolution.specs.Cells.{fresh, present}
 use Rattle.resolution.specs.Limits.{cell-limit, step-limit, allowance-limit}
 use Rattle.resolution.specs.Lines.{Step, Place, rules-taken, line, onward, lines}
 use Rattle.resolution.specs.Search.{Condition, running, standing, ended, stopped, Search, held, Called, refused, continued, next}

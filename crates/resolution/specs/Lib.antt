@@ -1,6 +1,6 @@
 pub mod Rules
-pub mod Follows
 pub mod Cells
+pub mod Follows
 pub mod Limits
 pub mod Lines
 pub mod Search

@@ -5,7 +5,7 @@ ghost use Rattle.resolution.specs.Examples.{Worked};
 ghost use Rattle.resolution.specs.Laws.{One-by-one, Refuses, Keeps-to-allowance, Splits, Sound, None-means-none, In-order, Steps-fit, Within-limits, Ended-bare, Tallies};
 
 // Why a search stops for good.
-#[derive(Clone, Copy, PartialEq, Eq, Debug)]
+#[derive(Clone, Copy, PartialEq, Eq)]
 pub enum Stop {
     // the branch has as many steps as it may
     Deep,
@@ -14,7 +14,7 @@ pub enum Stop {
 }
 
 // What a call of next says.
-#[derive(Clone, Copy, PartialEq, Eq, Debug)]
+#[derive(Clone, Copy, PartialEq, Eq)]
 pub enum Word {
     // no goal remains, and the answer stands
     Answer,
@@ -27,21 +27,21 @@ pub enum Word {
 }
 
 // The word of a call of next, and the tries made in it.
-#[derive(Clone, Copy, PartialEq, Eq, Debug)]
+#[derive(Clone, Copy)]
 pub struct Outcome {
     pub word: Word,
     pub tries: u32,
 }
 
 // Why a call is refused; specs/ has its number.
-#[derive(Clone, Copy, PartialEq, Eq, Debug)]
+#[derive(Clone, Copy)]
 pub enum Refusal {
     // the allowance is above its limit
     Allowance,
 }
 
 // Tries and answers since opening or the last rewind, and the steps and cells in use.
-#[derive(Clone, Copy, PartialEq, Eq, Debug)]
+#[derive(Clone, Copy)]
 pub struct Tally {
     pub tries: u32,
     pub answers: u32,
