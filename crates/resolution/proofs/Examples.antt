@@ -17,6 +17,10 @@ worked =
       nothing-to-show = refl;
       spent-at-512 = refl;
       deep-at-513 = refl;
+      answer-at-512-steps = refl;
       cells-after-32 = refl;
       cells-after-31 = refl;
+      deep-before-cells = refl;
+      tries-held = refl;
+      answers-held = refl;
     }

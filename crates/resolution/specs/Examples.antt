@@ -1,7 +1,8 @@
 -- Worked examples of the search, by computation. Assumes nothing.
 use mathlib.Core.Path.{_≡_}
-use mathlib.Core.List.{List, [], _∷_, map}
+use mathlib.Core.List.{List, [], _∷_, _++_, map}
 use Prim.Native.Nat.{ℕ}
+use lib.ListN.{replicate}
 use Rattle.std.specs.declared.result.Result.the-variants.{Ok, Err}
 use Rattle.terms.specs.Terms.{Term, var, atom, pair, Rule, Query}
 use Rattle.resolution.specs.declared.Stop.the-variants.{Deep, Cells}
@@ -10,6 +11,7 @@ use Rattle.resolution.specs.declared.Word.the-variants.{Answer, Spent, Stopped
 use Rattle.resolution.specs.declared.Refusal.the-variants.{Allowance}
 use Rattle.resolution.specs.declared.Tally.{Tally}
 use Rattle.resolution.specs.Lines.{Place, rules-taken}
+use Rattle.resolution.specs.Search.{running, Search, opened, next, tally}
 use Rattle.resolution.specs.Calls.{at-tally, seen-tally, Call, ask-next, ask-rewind, ask, Reply, said, restored, saw, session, run}
 
 -- the list of the terms a, and of a, b and c, which ends in atom 0
@@ -19,8 +21,12 @@ list-of-1 a = pair a (atom 0)
 abbrev pub list-of-3 : Term → Term → Term → Term
 list-of-3 a b c = pair a (pair b (pair c (atom 0)))
 
+-- a rule without goals that declares v variables, and one that declares none
+abbrev pub wide : Term → ℕ → Rule
+wide t v = record { variables = v; head = t; goals = [] }
+
 abbrev pub fact : Term → Rule
-fact t = record { variables = 0; head = t; goals = [] }
+fact t = wide t 0
 
 -- 5 is before 6, 6 before 7; reached in one step or in several
 abbrev pub chain : List Rule
@@ -71,8 +77,14 @@ nexts = map ask-next
 abbrev pub answered : List Rule → Query → List ℕ → List (List ℕ)
 answered rs q allowances = map (λ (p : Place). rules-taken (p .branch)) (session rs q (nexts allowances) .given)
 
+-- a search whose counts stand at n
+abbrev pub counted : ℕ → Query → Search
+counted n q = record { condition = running; place = opened q .place; tries = n; answers = n }
+
 pub record Worked : Type 0 where
-  pub path : run chain from-5 (nexts (1000 ∷ 1000 ∷ 1000 ∷ 0 ∷ [])) ≡ says Answer 4 ∷ says Answer 10 ∷ says NoMore 22 ∷ says NoMore 0 ∷ []
+  pub path :
+      run chain from-5 (nexts (1000000 ∷ 1000 ∷ 1000 ∷ 0 ∷ 1000001 ∷ []))
+      ≡ says Answer 4 ∷ says Answer 10 ∷ says NoMore 22 ∷ says NoMore 0 ∷ said (Err Allowance) ∷ []
   pub path-rules : answered chain from-5 (1000 ∷ 1000 ∷ 1000 ∷ []) ≡ (3 ∷ 0 ∷ 2 ∷ 1 ∷ []) ∷ (2 ∷ 0 ∷ []) ∷ []
   pub path-cells : map (λ (p : Place). p .cells) (session chain from-5 (nexts (4 ∷ [])) .given) ≡ (atom 6 ∷ atom 5 ∷ atom 6 ∷ []) ∷ []
   pub path-parts :
@@ -91,8 +103,18 @@ pub record Worked : Type 0 where
       ∷ says Answer 4
       ∷ []
   pub occurs-in-it : run twins inside-itself (nexts (1000 ∷ [])) ≡ says NoMore 1 ∷ []
-  pub nothing-to-show : run [] no-goals (nexts (0 ∷ 0 ∷ [])) ≡ says Answer 0 ∷ says NoMore 0 ∷ []
+  pub nothing-to-show : run [] no-goals (nexts (0 ∷ 0 ∷ 0 ∷ [])) ≡ says Answer 0 ∷ says NoMore 0 ∷ says NoMore 0 ∷ []
   pub spent-at-512 : run (circle 5 0 ∷ []) (ask-circle 5 0) (nexts (512 ∷ [])) ≡ says Spent 512 ∷ []
-  pub deep-at-513 : run (circle 5 0 ∷ []) (ask-circle 5 0) (nexts (513 ∷ 513 ∷ [])) ≡ says (Stopped Deep) 512 ∷ says (Stopped Deep) 0 ∷ []
+  pub deep-at-513 :
+      run (circle 5 0 ∷ []) (ask-circle 5 0) (nexts (513 ∷ 513 ∷ 0 ∷ 1000001 ∷ []))
+      ≡ says (Stopped Deep) 512 ∷ says (Stopped Deep) 0 ∷ says (Stopped Deep) 0 ∷ said (Err Allowance) ∷ []
+  pub answer-at-512-steps :
+      run (fact (atom 5) ∷ []) (record { variables = 0; goals = replicate 512 (atom 5) }) (nexts (512 ∷ 0 ∷ []))
+      ≡ says Answer 512 ∷ says NoMore 0 ∷ []
   pub cells-after-32 : run (circle 6 64 ∷ []) (ask-circle 6 0) (nexts (1000 ∷ [])) ≡ says (Stopped Cells) 32 ∷ []
   pub cells-after-31 : run (circle 6 64 ∷ []) (ask-circle 6 1) (nexts (1000 ∷ [])) ≡ says (Stopped Cells) 31 ∷ []
+  pub deep-before-cells :
+      run (wide (atom 9) 2048 ∷ fact (atom 5) ∷ wide (atom 6) 1 ∷ []) (record { variables = 0; goals = replicate 511 (atom 5) ++ (atom 6 ∷ atom 5 ∷ []) }) (nexts (2000 ∷ []))
+      ≡ says (Stopped Deep) 1025 ∷ []
+  pub tries-held : tally (next chain 3 (counted 4294967293 from-5) .search) .tries ≡ 4294967295
+  pub answers-held : tally (next chain 4 (counted 4294967295 from-5) .search) .answers ≡ 4294967295
