@@ -8,3 +8,4 @@ pub mod General
 pub mod Recursion
 pub mod Steps
 pub mod Within
+pub mod Examples

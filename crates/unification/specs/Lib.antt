@@ -3,3 +3,4 @@ pub mod Ground
 pub mod Substitutions
 pub mod Unification
 pub mod Laws
+pub mod Examples
