@@ -44,6 +44,14 @@ chain =
 abbrev pub from-5 : Query
 from-5 = record { variables = 1; goals = list-of-3 (atom 3) (atom 5) (var 0) ∷ [] }
 
+-- from 5 to a term that is before 7
+abbrev pub before-7 : Query
+before-7 = record { variables = 1; goals = list-of-3 (atom 3) (atom 5) (var 0) ∷ list-of-3 (atom 2) (var 0) (atom 7) ∷ [] }
+
+-- a term and the next
+abbrev pub neighbours : Query
+neighbours = record { variables = 2; goals = list-of-3 (atom 2) (var 0) (var 1) ∷ [] }
+
 -- a term and itself
 abbrev pub twins : List Rule
 twins = record { variables = 1; head = list-of-3 (atom 4) (var 0) (var 0); goals = [] } ∷ []
@@ -73,7 +81,10 @@ counts t = saw (seen-tally t)
 abbrev pub nexts : List ℕ → List Call
 nexts = map ask-next
 
--- the rule numbers of the answers given, newest answer first
+-- the cells, and the rule numbers, of the answers given, newest answer first
+abbrev pub cells-given : List Rule → Query → List ℕ → List (List Term)
+cells-given rs q allowances = map (λ (p : Place). p .cells) (session rs q (nexts allowances) .given)
+
 abbrev pub answered : List Rule → Query → List ℕ → List (List ℕ)
 answered rs q allowances = map (λ (p : Place). rules-taken (p .branch)) (session rs q (nexts allowances) .given)
 
@@ -86,7 +97,7 @@ pub record Worked : Type 0 where
       run chain from-5 (nexts (1000000 ∷ 1000 ∷ 1000 ∷ 0 ∷ 1000001 ∷ []))
       ≡ says Answer 4 ∷ says Answer 10 ∷ says NoMore 22 ∷ says NoMore 0 ∷ said (Err Allowance) ∷ []
   pub path-rules : answered chain from-5 (1000 ∷ 1000 ∷ 1000 ∷ []) ≡ (3 ∷ 0 ∷ 2 ∷ 1 ∷ []) ∷ (2 ∷ 0 ∷ []) ∷ []
-  pub path-cells : map (λ (p : Place). p .cells) (session chain from-5 (nexts (4 ∷ [])) .given) ≡ (atom 6 ∷ atom 5 ∷ atom 6 ∷ []) ∷ []
+  pub path-cells : cells-given chain from-5 (1000 ∷ []) ≡ (atom 6 ∷ atom 5 ∷ atom 6 ∷ []) ∷ []
   pub path-parts :
       run chain from-5 (nexts (3 ∷ 0 ∷ 1 ∷ 9 ∷ 1 ∷ 21 ∷ 1 ∷ []))
       ≡ says Spent 3 ∷ says Spent 0 ∷ says Answer 1 ∷ says Spent 9 ∷ says Answer 1 ∷ says Spent 21 ∷ says NoMore 1 ∷ []
@@ -102,6 +113,9 @@ pub record Worked : Type 0 where
       ∷ counts (record { tries = 0; answers = 0; steps = 0; cells = 1 })
       ∷ says Answer 4
       ∷ []
+  pub second-goal : run chain before-7 (nexts (1000 ∷ 1000 ∷ [])) ≡ says Answer 6 ∷ says NoMore 38 ∷ []
+  pub second-goal-rules : answered chain before-7 (1000 ∷ []) ≡ (2 ∷ 0 ∷ 1 ∷ []) ∷ []
+  pub bindings-undone : cells-given chain neighbours (1 ∷ 1 ∷ []) ≡ (atom 6 ∷ atom 7 ∷ []) ∷ (atom 5 ∷ atom 6 ∷ []) ∷ []
   pub occurs-in-it : run twins inside-itself (nexts (1000 ∷ [])) ≡ says NoMore 1 ∷ []
   pub nothing-to-show : run [] no-goals (nexts (0 ∷ 0 ∷ 0 ∷ [])) ≡ says Answer 0 ∷ says NoMore 0 ∷ says NoMore 0 ∷ []
   pub spent-at-512 : run (circle 5 0 ∷ []) (ask-circle 5 0) (nexts (512 ∷ [])) ≡ says Spent 512 ∷ []
