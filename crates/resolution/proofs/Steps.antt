@@ -25,9 +25,9 @@ presents-kept σ cells v ts h =
     map-map (apply σ) (present cells) ts
     ∙ sym (map-same (length cells) (present (stepped σ cells v)) (λ t. apply σ (present cells t)) (present-kept σ cells v) ts h)
 
-map-nil : (ts : List Term) → map (λ (t : Term). t) ts ≡ ts
-map-nil [] = refl
-map-nil (t ∷ ts) = ap (λ (l : List Term). t ∷ l) (map-nil ts)
+map-itself : (ts : List Term) → map (λ (t : Term). t) ts ≡ ts
+map-itself [] = refl
+map-itself (t ∷ ts) = ap (λ (l : List Term). t ∷ l) (map-itself ts)
 
 module _ (rs : List Rule) (cl : All-closed rs) (q : Query) where
   own-within : (n : ℕ) (f : Step) → length (f .cells) + rule rs (f .rule) .variables ≤ n → (t : Term) → Within (rule rs (f .rule) .variables) t → Within n (shifted (length (f .cells)) t)
@@ -99,7 +99,7 @@ module _ (rs : List Rule) (cl : All-closed rs) (q : Query) where
     fitting-opening =
         record {
           tidy = tidy-opening rs q bq;
-          resolved = sym (map-same (q .variables) (present (fresh 0 (q .variables))) (λ t. t) (present-fresh (q .variables)) (q .goals) bq ∙ map-nil (q .goals));
+          resolved = sym (map-same (q .variables) (present (fresh 0 (q .variables))) (λ t. t) (present-fresh (q .variables)) (q .goals) bq ∙ map-itself (q .goals));
         }
 
 pub steps-fit : Steps-fit
