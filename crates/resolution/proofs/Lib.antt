@@ -1,0 +1,15 @@
+pub mod Examples
+pub mod Lines
+pub mod Allowance
+pub mod Sessions
+pub mod Cells
+pub mod Order
+pub mod Limits
+pub mod Follows
+pub mod Declared
+pub mod Steps
+pub mod Soundness
+pub mod Completeness
+pub mod Counts
+pub mod Ended
+pub mod Turns

@@ -1,0 +1,9 @@
+pub mod Rules
+pub mod Cells
+pub mod Follows
+pub mod Limits
+pub mod Lines
+pub mod Search
+pub mod Calls
+pub mod Examples
+pub mod Laws

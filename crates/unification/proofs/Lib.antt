@@ -1,0 +1,11 @@
+pub mod Choice
+pub mod Substitutions
+pub mod Ground
+pub mod Variables
+pub mod Joins
+pub mod Shrinks
+pub mod General
+pub mod Recursion
+pub mod Steps
+pub mod Within
+pub mod Examples
