@@ -1,54 +1,33 @@
 // Prints what stands in `book.bin`, item by item.
+mod lines;
 mod notation;
 
-use grammar::faults::BookFault;
+use lines::item_line;
+use lines::refused_line;
+use lines::world_after;
 use reading::books::Book;
-use reading::books::Item;
-use reading::rules::Rule;
 use std::error::AnyError;
 use std::fs;
 
-fn refused(rt: &LibcRuntime, fault: BookFault) -> Result<(), AnyError> {
-    let number = fault.number();
-    let place = fault.place();
-    let layer = fault.layer();
-    match fault.rule() {
-        Some(rule) => println!(rt, "refused,{number},{place},{layer},{rule}")?,
-        None => println!(rt, "refused,{number},{place},{layer},-")?,
-    }
-    Ok(())
-}
-
-fn rule_line(rt: &LibcRuntime, number: u16, world: u8, rule: &Rule) -> Result<(), AnyError> {
-    let place = rule.place;
-    let variables = rule.variables;
-    let goals = rule.goals;
-    let text = notation::rule(rt.alloc(), rule)?;
-    println!(rt, "rule,{number},{world},{place},{variables},{goals},{text}")?;
-    Ok(())
-}
-
 // A line for each item, and a last one with the number of rules or the fault.
 fn inspect(rt: &LibcRuntime, bytes: &[u8]) -> Result<(), AnyError> {
+    let heap = rt.alloc();
     let mut book = match Book::open(bytes) {
         Ok(book) => book,
-        Err(fault) => return refused(rt, fault),
+        Err(fault) => return Ok(rt.println(refused_line(heap, fault)?)?),
     };
     let mut world = 0;
-    loop {
+    'items: loop {
         let rules = book.rules();
-        match book.item() {
-            Ok(Some(Item::World { number, place })) => {
-                world = number;
-                println!(rt, "world,{number},{place}")?;
-            }
-            Ok(Some(Item::Rule(rule))) => rule_line(rt, rules, world, &rule)?,
-            Ok(None) => {
-                println!(rt, "ok,{rules}")?;
-                return Ok(());
-            }
-            Err(fault) => return refused(rt, fault),
-        }
+        let next = match book.item() {
+            Ok(next) => next,
+            Err(fault) => return Ok(rt.println(refused_line(heap, fault)?)?),
+        };
+        let Some(item) = next else {
+            return Ok(println!(rt, "ok,{rules}")?);
+        };
+        rt.println(item_line(heap, rules, world, &item)?)?;
+        world = world_after(world, &item);
     }
 }
 
@@ -59,4 +38,29 @@ fn main(rt: LibcRuntime) -> Result<(), AnyError> {
         Err(_) => Vec::new(rt.alloc()),
     };
     inspect(&rt, bytes.as_slice())
+}
+
+#[cfg(test)]
+mod tests {
+    use crate::lines::refused_line;
+    use reading::books::count_rules;
+    use std::alloc::Global;
+    use std::test::*;
+
+    fn last_line(heap: Global, bytes: &[u8]) -> Result<String, Fail> {
+        match count_rules(bytes) {
+            Ok(rules) => Ok(format!(heap, "ok,{rules}")?),
+            Err(fault) => Ok(refused_line(heap, fault)?),
+        }
+    }
+
+    // A refused book's last line, with and without the number of a rule.
+    #[test]
+    fn refusals(rt: LibcRuntime) -> Result<(), Fail> {
+        let heap = rt.alloc();
+        check_eq(last_line(heap, b"")?.as_str(), "ok,0")?;
+        check_eq(last_line(heap, &[0x11, 0, 0x12])?.as_str(), "refused,2,2,3,-")?;
+        check_eq(last_line(heap, &[0x11])?.as_str(), "refused,3,0,1,-")?;
+        check_eq(last_line(heap, &[0x11, 0, 0x10, 1, 0, 0, 2, 2, 1])?.as_str(), "refused,10,7,2,0")
+    }
 }

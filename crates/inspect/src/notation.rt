@@ -1,5 +1,6 @@
 // The readable notation of terms: a variable is `?3`, a pair `(a . b)`, and `(a b)` stands for `(a . (b . 0))`.
 use grammar::commands::Command;
+use grammar::commands::CommandPartialEq;
 use reading::commands::Reader;
 use reading::rules::Rule;
 use std::alloc::AllocError;

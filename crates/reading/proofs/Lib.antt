@@ -5,4 +5,4 @@ mod Under
 mod Alone
 mod Numbered
 mod Sizes
-mod Whole
+pub mod Whole
