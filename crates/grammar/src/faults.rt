@@ -5,6 +5,11 @@ ghost use Rattle.grammar.specs.declared.faults.SingleFault.the-variants.{Insid
 ghost use Rattle.grammar.specs.declared.faults.BookFault.the-variants.{World};
 ghost use Rattle.grammar.specs.Refusals.{command-number, command-place, command-layer, rule-number, rule-place, rule-layer, single-number, single-place, single-layer, book-number, book-place, book-layer, book-rule};
 
+// The layers: commands, rules and queries, the whole.
+const COMMANDS: u8 = 1;
+const RULES: u8 = 2;
+const WHOLE: u8 = 3;
+
 // The layer of commands.
 #[derive(Clone, Copy, PartialEq, Eq, Debug)]
 pub enum CommandFault {
@@ -111,7 +116,9 @@ impl CommandFault {
     pub fn layer(&self) -> u8
         ensures { λ r. ⌜ r ≡ command-layer (now (self .entry)) ⌝ }
     {
-        1
+        match *self {
+            CommandFault::Operands { .. } | CommandFault::NoTerm { .. } => COMMANDS,
+        }
     }
 }
 
@@ -149,7 +156,12 @@ impl RuleFault {
     {
         match *self {
             RuleFault::Command(fault) => fault.layer(),
-            _ => 2,
+            RuleFault::Variables { .. }
+            | RuleFault::Goals { .. }
+            | RuleFault::Length { .. }
+            | RuleFault::TermMissing { .. }
+            | RuleFault::Undeclared { .. }
+            | RuleFault::LengthLeft { .. } => RULES,
         }
     }
 }
@@ -179,7 +191,7 @@ impl SingleFault {
     {
         match *self {
             SingleFault::Inside(fault) => fault.layer(),
-            _ => 3,
+            SingleFault::Start { .. } | SingleFault::BytesLeft { .. } => WHOLE,
         }
     }
 }
@@ -214,7 +226,7 @@ impl BookFault {
         match *self {
             BookFault::Rule { fault, .. } => fault.layer(),
             BookFault::World(fault) => fault.layer(),
-            _ => 3,
+            BookFault::TooLong | BookFault::NoItem { .. } | BookFault::TooManyRules { .. } => WHOLE,
         }
     }
 
@@ -224,7 +236,7 @@ impl BookFault {
     {
         match *self {
             BookFault::Rule { number, .. } | BookFault::TooManyRules { number, .. } => Some(number),
-            _ => None,
+            BookFault::World(_) | BookFault::TooLong | BookFault::NoItem { .. } => None,
         }
     }
 }

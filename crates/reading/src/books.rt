@@ -148,14 +148,16 @@ impl<'a> Book<'a> {
     pub fn place(&self) -> usize
         ensures { λ r. ⌜ r ≡ now (self .entry) .place ⌝ }
     {
-        self.place
+        let Book { place, .. } = self;
+        *place
     }
 
     // The number of rules before the next item.
     pub fn rules(&self) -> u16
         ensures { λ r. ⌜ r ≡ now (self .entry) .rules ⌝ }
     {
-        self.rules
+        let Book { rules, .. } = self;
+        *rules
     }
 
     // The next item, or nothing at the end. A fault leaves the book where it was.

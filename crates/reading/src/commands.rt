@@ -84,7 +84,8 @@ impl<'a> Reader<'a> {
     pub fn place(&self) -> usize
         ensures { λ r. ⌜ r ≡ now (self .entry) .place ⌝ }
     {
-        self.place
+        let Reader { place, .. } = self;
+        *place
     }
 
     // Takes the term command that stands next, or nothing at the end of the frame. A fault takes nothing.
