@@ -5,3 +5,4 @@ pub mod Framed
 pub mod Alone
 pub mod Rows
 pub mod Places
+pub mod Fitting

@@ -4,4 +4,5 @@ pub mod TermCommands
 pub mod Singles
 pub mod Items
 pub mod Encodings
+pub mod Texts
 pub mod Laws

@@ -1,6 +1,6 @@
 mod Fronts
 mod Passing
-mod Parts
+pub mod Parts
 mod Under
 mod Alone
 mod Numbered

@@ -1,0 +1,3 @@
+pub mod Piled
+mod Owned
+mod Changed

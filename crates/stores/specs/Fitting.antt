@@ -1,0 +1,15 @@
+-- Lists of fit rules, put together and taken apart. Assumes nothing.
+use mathlib.Core.Path.{_≡_, refl}
+use mathlib.Core.Bool.{Bool, true, false, _&&_}
+use mathlib.Core.List.{List, [], _∷_, _++_}
+use Prim.Native.Nat.{ℕ}
+use Rattle.grammar.specs.Texts.{fit, all-fit}
+
+both : (a b c : Bool) → (a && b) ≡ true → (b ≡ true → c ≡ true) → (a && c) ≡ true
+both true b c p f = f p
+both false b c p f = p
+
+-- one list of fit rules after another
+pub fit-append : (ts us : List (List ℕ)) → all-fit ts ≡ true → all-fit us ≡ true → all-fit (ts ++ us) ≡ true
+fit-append [] us p q = q
+fit-append (t ∷ ts) us p q = both (fit t) (all-fit ts) (all-fit (ts ++ us)) p (λ h. fit-append ts us h q)

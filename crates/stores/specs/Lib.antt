@@ -1,0 +1,4 @@
+pub mod Answers
+pub mod Fitting
+pub mod Lists
+pub mod Changes

@@ -1,0 +1,4 @@
+// Stores of rules: the interface, and the stores that belong to the base.
+pub mod boards;
+pub mod piles;
+pub mod stores;
