@@ -1,16 +1,16 @@
 -- Reading a rule or a query is the inverse of writing it. Assumes nothing.
-use mathlib.Core.Path.{_≡_, refl, sym, ap, ap₂, subst, _∙_}
+use mathlib.Core.Path.{_≡_, refl, sym, ap, subst, _∙_}
 use mathlib.Core.List.{List, [], _∷_}
 use Prim.Native.Nat.{ℕ, suc}
 use native.Mathlib.Omega.{arith}
 use lib.ListN.{length}
 use Rattle.std.specs.declared.result.Result.{Result}
 use Rattle.std.specs.declared.result.Result.the-variants.{Ok, Err}
-use Rattle.terms.specs.Terms.{Term, Rule, Query}
+use Rattle.terms.specs.Terms.{Term}
 use Rattle.grammar.specs.Singles.{rule-byte, query-byte, rule-due, rule-of, rule, query-due, query-of, query}
 use Rattle.grammar.specs.Encodings.{All-bytes, framed, rule-bytes, query-bytes, Within, Fit-rule, Fit-query}
 use Rattle.grammar.specs.Laws.{Inverse, Rules-are-their-bytes, Queries-are-their-bytes}
-use Rattle.grammar.proofs.Framed.{single-reads, Alone, single-is}
+use Rattle.grammar.proofs.Framed.{single-reads, single-is}
 
 -- what is read and what is written decide the rest
 pub inverse : {T E : Type 0} (read : List ℕ → Result T E) (write : T → List ℕ) (Fit : T → Type 0)

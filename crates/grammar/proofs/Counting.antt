@@ -1,5 +1,5 @@
 -- Terms are read as many as are due, and first some of them and then the others is the same. Assumes nothing.
-use mathlib.Core.Path.{_≡_, refl, sym, ap, _∙_}
+use mathlib.Core.Path.{_≡_, refl, ap, _∙_}
 use mathlib.Core.Bool.{Bool, true, false}
 use mathlib.Core.List.{List, [], _∷_, _++_}
 use Prim.Native.Nat.{ℕ, zero, suc}
@@ -13,7 +13,7 @@ use Rattle.grammar.specs.declared.commands.Command.the-variants.{Atom, Var, Pa
 use Rattle.grammar.specs.declared.faults.RuleFault.{RuleFault}
 use Rattle.grammar.specs.declared.faults.RuleFault.the-variants.{Undeclared}
 use Rattle.grammar.specs.Asking.{ask}
-use Rattle.grammar.specs.TermCommands.{Commands, end, unfit, next, with-term, joined-first, with-pair, terms}
+use Rattle.grammar.specs.TermCommands.{Commands, end, unfit, next, with-term, with-pair, terms}
 
 abbrev pub Reading : Type 0
 Reading = Result (List Term × Commands) RuleFault

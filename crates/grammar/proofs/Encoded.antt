@@ -6,7 +6,7 @@ use Prim.Native.Nat.{ℕ, zero, suc, _+_, _*_, _/_, _%_, _≤_, _<_}
 use native.Mathlib.Nat.{add-zero}
 use native.Mathlib.Omega.{arith}
 use lib.Dec.{ltb}
-use lib.ListN.{length, drop, length-append, length-drop}
+use lib.ListN.{length, drop, length-append}
 use Rattle.std.proofs.shelf.Tests.{ltb-true, lt-ltb}
 use Rattle.std.specs.declared.result.Result.{Result}
 use Rattle.std.specs.declared.result.Result.the-variants.{Ok, Err}
@@ -21,8 +21,8 @@ use Rattle.grammar.specs.declared.faults.RuleFault.{RuleFault}
 use Rattle.grammar.specs.declared.faults.RuleFault.the-variants.{Undeclared}
 use Rattle.grammar.specs.Asking.{ask}
 use Rattle.grammar.specs.Encodings.{All-bytes}
-use Rattle.grammar.specs.TermCommands.{command, operands, Commands, end, unfit, next, commands, with-term, with-pair, terms}
-use Rattle.grammar.proofs.Taking.{Front, atom-front, pair-front, variable-front, unknown-front, front, has-operands, one-more, no-more}
+use Rattle.grammar.specs.TermCommands.{command, operands, Commands, next, commands, with-term, with-pair, terms}
+use Rattle.grammar.proofs.Taking.{Front, atom-front, pair-front, variable-front, unknown-front, front, one-more, no-more}
 use Rattle.grammar.proofs.Counting.{Reading, Counted, counted}
 
 -- ── what is read is an encoding ──

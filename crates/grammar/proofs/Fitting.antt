@@ -1,18 +1,16 @@
 -- Fit rules in bytes. Assumes nothing.
-use mathlib.Core.Path.{_≡_, refl, sym, ap, subst, _∙_}
-use mathlib.Core.Bool.{Bool, true, false, _&&_}
-use mathlib.Core.List.{List, [], _∷_, _++_, map}
+use mathlib.Core.Path.{_≡_, refl, ap}
+use mathlib.Core.Bool.{true}
+use mathlib.Core.List.{List, [], _∷_, _++_}
 use Prim.Native.Nat.{ℕ, zero, suc, _+_, _≤_, _<_}
 use native.Mathlib.Omega.{arith}
 use lib.Dec.{ltb}
-use lib.ListN.{length, getD, length-append}
+use lib.ListN.{length, getD}
 use Rattle.std.proofs.shelf.Tests.{ltb-true, lt-ltb, and-parts, and-from}
 use Rattle.std.specs.Results.{isOk}
 use Rattle.std.specs.declared.result.Result.{Result}
 use Rattle.std.specs.declared.result.Result.the-variants.{Ok, Err}
-use Rattle.terms.specs.declared.Form.the-variants.{Rules}
 use Rattle.terms.specs.Terms.{Rule}
-use Rattle.terms.specs.Bytes.{two, encodings}
 use Rattle.grammar.specs.declared.faults.SingleFault.{SingleFault}
 use Rattle.grammar.specs.Singles.{rule}
 use Rattle.grammar.specs.Encodings.{All-bytes, rule-bytes, Fit-rule}

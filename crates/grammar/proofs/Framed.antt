@@ -12,18 +12,17 @@ use Rattle.std.specs.declared.result.Result.{Result}
 use Rattle.std.specs.declared.result.Result.the-variants.{Ok, Err}
 use Rattle.terms.specs.declared.Form.{Form}
 use Rattle.terms.specs.declared.Form.the-variants.{Rules}
-use Rattle.terms.specs.Terms.{Term, Rule, Query}
-use Rattle.terms.specs.Bytes.{two, encoding, encodings, All-fit}
+use Rattle.terms.specs.Terms.{Term}
+use Rattle.terms.specs.Bytes.{two, encodings, All-fit}
 use Rattle.grammar.specs.declared.commands.Command.{Command}
 use Rattle.grammar.specs.declared.faults.CommandFault.{CommandFault}
-use Rattle.grammar.specs.declared.faults.RuleFault.{RuleFault}
 use Rattle.grammar.specs.declared.faults.RuleFault.the-variants.{Command as InCommand, Variables, Goals, Length}
 use Rattle.grammar.specs.declared.faults.SingleFault.{SingleFault}
 use Rattle.grammar.specs.declared.faults.SingleFault.the-variants.{Inside, Start, BytesLeft}
 use Rattle.grammar.specs.Asking.{ask, go}
-use Rattle.grammar.specs.TermCommands.{command, operands, Commands, end, unfit, next, taken, commands-past, commands, terms}
-use Rattle.grammar.specs.Singles.{most-variables, most-goals, longest, rule-byte, query-byte, Header, header-size, header, used-up, body, single, rule-due, rule-of, rule, query-due, query-of, query}
-use Rattle.grammar.specs.Encodings.{All-bytes, framed, rule-bytes, query-bytes, Within, Fit-rule, Fit-query}
+use Rattle.grammar.specs.TermCommands.{command, operands, end, unfit, next, taken, commands-past, commands, terms}
+use Rattle.grammar.specs.Singles.{most-variables, most-goals, longest, Header, header-size, header, used-up, body, single}
+use Rattle.grammar.specs.Encodings.{All-bytes, framed, Within}
 use Rattle.grammar.proofs.Counting.{Reading, Counted, counted}
 use Rattle.grammar.proofs.Encoded.{Encoded, Encodes, encoded, decoded-all}
 

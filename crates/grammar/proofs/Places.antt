@@ -1,8 +1,8 @@
 -- No fault stands beyond the end of the bytes. Assumes nothing.
-use mathlib.Core.Path.{_≡_, refl, sym, ap, subst, _∙_}
+use mathlib.Core.Path.{_≡_, refl, sym, ap, subst}
 use mathlib.Core.Bool.{Bool, true, false, cond, _&&_}
 use mathlib.Core.List.{List, [], _∷_}
-use Prim.Native.Nat.{ℕ, zero, suc, _+_, _*_, _≤_, _<_}
+use Prim.Native.Nat.{ℕ, zero, suc, _+_, _*_, _≤_}
 use native.Mathlib.Omega.{arith}
 use lib.Dec.{eqb, leb, ltb}
 use lib.ListN.{length, take, drop, length-drop, length-take}
@@ -24,8 +24,8 @@ use Rattle.grammar.specs.declared.faults.BookFault.{BookFault}
 use Rattle.grammar.specs.declared.faults.BookFault.the-variants.{Rule as InRule, World, TooLong, NoItem, TooManyRules}
 use Rattle.grammar.specs.Refusals.{command-place, rule-place, single-place, book-place}
 use Rattle.grammar.specs.Asking.{ask, go}
-use Rattle.grammar.specs.TermCommands.{command, operands, Commands, end, unfit, next, commands, with-term, with-pair, terms}
-use Rattle.grammar.specs.Singles.{most-variables, most-goals, longest, rule-byte, query-byte, Header, header-size, header, used-up, body, single, rule-due, rule-of, rule, query-due, query-of, query}
+use Rattle.grammar.specs.TermCommands.{command, operands, end, unfit, next, commands, with-term, with-pair, terms}
+use Rattle.grammar.specs.Singles.{most-variables, most-goals, longest, rule-byte, query-byte, Header, header-size, header, used-up, body, single, rule-due, rule-of, query-due, query-of}
 use Rattle.grammar.specs.Items.{most-bytes, most-rules, world-byte, Item, world, rule as rule-of-book, world-item, rule-item, item, counts, with-item, items-past, book}
 use Rattle.grammar.specs.Laws.{Faults-stand-inside}
 use Rattle.grammar.proofs.Taking.{front, has-operands, one-more, no-more, place-of, place-first, fault-place}

@@ -1,28 +1,27 @@
 -- Reading a book, item by item, is the inverse of writing its items. Assumes nothing.
 use mathlib.Core.Path.{_≡_, refl, sym, ap, ap₂, subst, _∙_}
 use mathlib.Core.Bool.{Bool, true, false, cond}
-use mathlib.Core.List.{List, [], _∷_, _++_, append-nil, append-assoc}
-use Prim.Native.Nat.{ℕ, zero, suc, _+_, _-_, max, _≤_, _<_}
+use mathlib.Core.List.{List, [], _∷_, _++_, append-assoc}
+use Prim.Native.Nat.{ℕ, zero, suc, _+_, max, _≤_}
 use native.Mathlib.Nat.{add-zero}
 use native.Mathlib.Omega.{arith}
 use lib.Dec.{eqb, leb, ltb}
-use lib.ListN.{length, take, drop, length-append, length-drop}
-use Rattle.std.proofs.shelf.Tests.{eqb-true, eq-eqb, ltb-true, lt-ltb, leb-true, le-leb}
+use lib.ListN.{length, drop, length-append, length-drop}
+use Rattle.std.proofs.shelf.Tests.{eqb-true, ltb-true, lt-ltb, leb-true, le-leb}
 use Rattle.std.proofs.shelf.Lists.{drop-at}
 use Rattle.std.specs.declared.result.Result.{Result}
 use Rattle.std.specs.declared.result.Result.the-variants.{Ok, Err}
 use Rattle.terms.specs.declared.Form.the-variants.{Rules}
-use Rattle.terms.specs.Terms.{Term, Rule}
+use Rattle.terms.specs.Terms.{Term}
 use Rattle.terms.specs.Bytes.{two, encodings}
-use Rattle.grammar.specs.declared.faults.CommandFault.the-variants.{Operands}
 use Rattle.grammar.specs.declared.faults.RuleFault.the-variants.{Command}
 use Rattle.grammar.specs.declared.faults.BookFault.{BookFault}
-use Rattle.grammar.specs.declared.faults.BookFault.the-variants.{Rule as InRule, World, TooLong, NoItem, TooManyRules}
+use Rattle.grammar.specs.declared.faults.BookFault.the-variants.{Rule as InRule, TooLong, NoItem, TooManyRules}
 use Rattle.grammar.specs.Asking.{ask, go}
-use Rattle.grammar.specs.Singles.{Header, rule-byte, header, body, rule-due, rule-of}
+use Rattle.grammar.specs.Singles.{rule-byte, header, body, rule-due, rule-of}
 use Rattle.grammar.specs.Items.{most-bytes, most-rules, world-byte, Item, world, rule, world-item, rule-item, item, counts, with-item, items-past, book, rules}
 use Rattle.grammar.specs.Encodings.{All-bytes, framed, rule-bytes, Within, Fit-rule, item-bytes, book-bytes, Fit-item, All-fit-items, Fit-book}
-use Rattle.grammar.specs.Laws.{Inverse, Books-are-their-items, Stops, Faults-leave-what-is-before}
+use Rattle.grammar.specs.Laws.{Books-are-their-items, Faults-leave-what-is-before}
 use Rattle.grammar.proofs.Encoded.{bytes-drop}
 use Rattle.grammar.proofs.Framed.{ask-yes, asked, go-yes, body-is, body-reads, header-bytes, header-is, header-reads, over-terms, within-body, body-within}
 use Rattle.grammar.proofs.Alone.{inverse}

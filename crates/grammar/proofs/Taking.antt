@@ -2,7 +2,7 @@
 use mathlib.Core.Path.{_≡_, refl, sym, ap, subst, _∙_}
 use mathlib.Core.Bool.{Bool, true, false, cond}
 use mathlib.Core.List.{List, [], _∷_}
-use Prim.Native.Nat.{ℕ, zero, suc, _+_, _*_, _≤_, _<_}
+use Prim.Native.Nat.{ℕ, zero, suc, _+_, _*_, _≤_}
 use native.Mathlib.Nat.{add-zero}
 use native.Mathlib.Omega.{arith}
 use lib.Dec.{eqb}
@@ -17,7 +17,7 @@ use Rattle.grammar.specs.declared.commands.Command.the-variants.{Atom, Var, Pa
 use Rattle.grammar.specs.declared.faults.CommandFault.{CommandFault}
 use Rattle.grammar.specs.declared.faults.CommandFault.the-variants.{Operands, NoTerm}
 use Rattle.grammar.specs.Refusals.{command-place}
-use Rattle.grammar.specs.TermCommands.{var-byte, byte-operand, two-operand, var-operand, command, operands, Commands, end, unfit, next, taken, commands-past, commands}
+use Rattle.grammar.specs.TermCommands.{var-byte, two-operand, var-operand, command, operands, Commands, end, unfit, next, taken, commands-past, commands}
 
 -- a command with its first byte and the bytes after it
 pub data Front : Form → ℕ → List ℕ → Command → Type 0 where

@@ -1,6 +1,6 @@
 -- The bytes of rules, queries and books, and which of them are within the limits. Assumes nothing.
 use mathlib.Core.List.{List, [], _∷_, _++_}
-use Prim.Native.Nat.{ℕ, _+_, _≤_, _<_}
+use Prim.Native.Nat.{ℕ, _≤_, _<_}
 use lib.ListN.{length}
 use Rattle.terms.specs.declared.Form.the-variants.{Rules}
 use Rattle.terms.specs.Terms.{Term, Rule, Query}

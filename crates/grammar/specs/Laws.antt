@@ -1,11 +1,10 @@
 -- The laws of reading. Assumes nothing.
 use mathlib.Core.Path.{_≡_}
-use mathlib.Core.List.{List, [], _∷_, _++_}
-use Prim.Native.Nat.{ℕ, _+_, _≤_}
+use mathlib.Core.List.{List, _∷_, _++_}
+use Prim.Native.Nat.{ℕ, _≤_}
 use lib.ListN.{length}
 use Rattle.std.specs.declared.result.Result.{Result}
 use Rattle.std.specs.declared.result.Result.the-variants.{Ok, Err}
-use Rattle.terms.specs.Terms.{Rule, Query}
 use Rattle.grammar.specs.declared.faults.SingleFault.{SingleFault}
 use Rattle.grammar.specs.declared.faults.BookFault.{BookFault}
 use Rattle.grammar.specs.Refusals.{single-place, book-place}

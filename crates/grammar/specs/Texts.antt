@@ -1,6 +1,5 @@
 -- Lists of rules in bytes, as stores mean them. Assumes nothing.
-use mathlib.Core.Path.{_≡_}
-use mathlib.Core.Bool.{Bool, true, false, _&&_}
+use mathlib.Core.Bool.{Bool, true, _&&_}
 use mathlib.Core.List.{List, [], _∷_, map}
 use Prim.Native.Nat.{ℕ, _+_}
 use lib.Dec.{ltb}
@@ -10,7 +9,7 @@ use Rattle.std.specs.declared.result.Result.{Result}
 use Rattle.std.specs.declared.result.Result.the-variants.{Ok, Err}
 use Rattle.grammar.specs.Singles.{rule}
 use Rattle.grammar.specs.Encodings.{rule-bytes}
-use Rattle.grammar.specs.Items.{Item, rules, book}
+use Rattle.grammar.specs.Items.{Item, rules}
 
 -- each is a byte
 abbrev pub all-bytes : List ℕ → Bool

@@ -6,7 +6,7 @@ use std::alloc::AllocError;
 use std::alloc::Global;
 
 // An item after so many rules, in this world.
-pub fn item_line(heap: Global, rules: u16, world: u8, item: &Item) -> Result<String, AllocError> {
+pub(crate) fn item_line(heap: Global, rules: u16, world: u8, item: &Item) -> Result<String, AllocError> {
     match item {
         Item::World { number, place } => format!(heap, "world,{number},{place}"),
         Item::Rule(rule) => {
@@ -19,7 +19,7 @@ pub fn item_line(heap: Global, rules: u16, world: u8, item: &Item) -> Result<Str
     }
 }
 
-pub fn refused_line(heap: Global, fault: BookFault) -> Result<String, AllocError> {
+pub(crate) fn refused_line(heap: Global, fault: BookFault) -> Result<String, AllocError> {
     let number = fault.number();
     let place = fault.place();
     let layer = fault.layer();
@@ -30,7 +30,7 @@ pub fn refused_line(heap: Global, fault: BookFault) -> Result<String, AllocError
 }
 
 // The world that covers what comes after an item.
-pub fn world_after(world: u8, item: &Item) -> u8 {
+pub(crate) fn world_after(world: u8, item: &Item) -> u8 {
     match item {
         Item::World { number, .. } => *number,
         Item::Rule(_) => world,

@@ -69,7 +69,7 @@ fn terms(heap: Global, bytes: &[u8]) -> Result<String, AllocError> {
     Ok(notation.text)
 }
 
-pub fn rule(heap: Global, rule: &Rule) -> Result<String, AllocError> {
+pub(crate) fn rule(heap: Global, rule: &Rule) -> Result<String, AllocError> {
     let mut text = terms(heap, rule.head)?;
     if rule.goals > 0 {
         text.push_str(" if ")?;

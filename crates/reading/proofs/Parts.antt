@@ -2,7 +2,7 @@
 use mathlib.Core.Path.{_≡_, refl, sym, ap, ap₂, subst, _∙_}
 use mathlib.Core.Bool.{Bool, true, false, _&&_}
 use mathlib.Core.List.{List, [], _∷_, _++_, append-nil}
-use Prim.Native.Nat.{ℕ, zero, suc, _+_, _-_, _≤_, _<_}
+use Prim.Native.Nat.{ℕ, zero, suc, _+_, _-_}
 use native.Mathlib.Omega.{arith}
 use lib.Dec.{leb}
 use lib.ListN.{length, getD, take, drop, length-append}
@@ -15,18 +15,16 @@ use Rattle.terms.specs.declared.Form.{Form}
 use Rattle.terms.specs.declared.Form.the-variants.{Rules}
 use Rattle.terms.specs.Terms.{Term}
 use Rattle.terms.specs.Bytes.{encodings}
-use Rattle.grammar.specs.declared.commands.Command.{Command}
-use Rattle.grammar.specs.declared.faults.CommandFault.{CommandFault}
 use Rattle.grammar.specs.declared.faults.RuleFault.{RuleFault}
 use Rattle.grammar.specs.declared.faults.RuleFault.the-variants.{Variables, Goals, Length, LengthLeft}
 use Rattle.grammar.specs.Asking.{ask, go}
 use Rattle.grammar.specs.Encodings.{All-bytes}
-use Rattle.grammar.specs.Refusals.{command-place}
-use Rattle.grammar.specs.TermCommands.{command, operands, Commands, end, unfit, next, taken, commands-past, commands, terms}
+use Rattle.grammar.specs.TermCommands.{Commands, end, unfit, next, commands, terms}
 use Rattle.grammar.specs.Singles.{Header, header-size, most-variables, most-goals, longest, used-up, body}
 use Rattle.grammar.proofs.Taking.{place-of, place-first}
 use Rattle.grammar.proofs.Counting.{Reading, Counted, counted, with-terms, then-terms, plus, then-others}
 use Rattle.grammar.proofs.Encoded.{Encoded, Encodes, encoded, bytes-drop}
+use Rattle.grammar.proofs.Framed.{none-left}
 use Rattle.reading.specs.Taking.{left, Went, over}
 use Rattle.reading.specs.Views.{seen, frame-bytes, parts-of, parts-read}
 
@@ -55,15 +53,6 @@ sum-is (suc m) n = ap suc (sum-is m n) ∙ omega arith
 
 both : (v m n : ℕ) (cs : Commands) → terms v (m + n) cs ≡ then-terms (terms v m cs) (terms v n)
 both v m n cs = ap (λ k. terms v k cs) (sym (sum-is m n)) ∙ then-others v m n cs
-
--- nothing is left only of nothing
-none-left : (f : Form) (p q : ℕ) (bs : List ℕ) → commands f p bs ≡ end q → bs ≡ []
-none-left f p q [] e = refl
-none-left f p q (b ∷ bs) e = by (command f p b bs) e
-  where
-    by : (r : Result Command CommandFault) → taken p r (λ c. commands-past f (operands f c) (p + 1) bs) ≡ end q → (b ∷ bs) ≡ []
-    by (Ok c) e = let z : _≡_ {A = ℕ} 0 1 = cc in absurd (omega arith)
-    by (Err x) e = let z : _≡_ {A = ℕ} 0 1 = cc in absurd (omega arith)
 
 -- commands go on at their place
 goes-over : (f : Form) (p b : ℕ) (bs : List ℕ) (ts : List Term) → used-up (Ok (ts, commands f p (b ∷ bs))) ≡ Err (LengthLeft p)

@@ -1,10 +1,8 @@
 -- Passing over terms, command by command. Assumes nothing.
 use mathlib.Core.Path.{_≡_, refl, sym, ap, subst, _∙_}
-use mathlib.Core.Bool.{Bool, true, false}
 use mathlib.Core.List.{List, [], _∷_}
-use Prim.Native.Nat.{ℕ, zero, suc, _+_, _-_, _≤_, _<_}
+use Prim.Native.Nat.{ℕ, suc, _+_, _-_, _≤_, _<_}
 use native.Mathlib.Omega.{arith}
-use lib.Dec.{ltb}
 use lib.ListN.{length, drop, length-drop}
 use Rattle.std.proofs.shelf.Lists.{drop-drop}
 use Rattle.std.proofs.shelf.Tests.{lt-ltb, le-ltb}
@@ -18,11 +16,11 @@ use Rattle.grammar.specs.declared.commands.Command.{Command}
 use Rattle.grammar.specs.declared.commands.Command.the-variants.{Atom, Var, Pair}
 use Rattle.grammar.specs.declared.faults.CommandFault.{CommandFault}
 use Rattle.grammar.specs.declared.faults.RuleFault.{RuleFault}
-use Rattle.grammar.specs.declared.faults.RuleFault.the-variants.{Command as InCommand, TermMissing, Undeclared}
+use Rattle.grammar.specs.declared.faults.RuleFault.the-variants.{Undeclared}
 use Rattle.grammar.specs.Asking.{ask, go}
 use Rattle.grammar.specs.TermCommands.{command, operands, Commands, end, unfit, next, commands, with-term, with-pair, terms}
 use Rattle.grammar.proofs.Taking.{front, has-operands, one-more, no-more}
-use Rattle.reading.specs.Taking.{first-command, size, taken-size, left, Passed, Went}
+use Rattle.reading.specs.Taking.{first-command, size, taken-size, left, Went}
 
 -- ── what one command says of the commands ──
 

@@ -1,11 +1,10 @@
 -- How many bytes an item has. Assumes nothing.
 use mathlib.Core.Path.{_≡_, refl, sym, ap, ap₂, subst, _∙_}
 use mathlib.Core.List.{List, [], _∷_}
-use Prim.Native.Nat.{ℕ, suc, _+_, _-_, max, _≤_, _<_}
+use Prim.Native.Nat.{ℕ, _+_, _-_, max, _≤_}
 use native.Mathlib.Omega.{arith}
 use lib.ListN.{length, take, drop, length-append}
 use Rattle.std.proofs.shelf.Lists.{take-rest, drop-all}
-use Rattle.std.specs.Options.{mapped}
 use Rattle.std.specs.declared.option.Option.{Option}
 use Rattle.std.specs.declared.option.Option.the-variants.{Some, None}
 use Rattle.std.specs.declared.result.Result.{Result}
@@ -16,7 +15,7 @@ use Rattle.grammar.specs.declared.faults.BookFault.{BookFault}
 use Rattle.grammar.specs.Asking.{go}
 use Rattle.grammar.specs.Items.{Item, world, rule, item, counts, most-rules}
 use Rattle.grammar.specs.Encodings.{All-bytes, item-bytes}
-use Rattle.grammar.proofs.Rows.{Item-read, item-read}
+use Rattle.grammar.proofs.Rows.{item-read}
 use Rattle.reading.specs.Views.{seen}
 use Rattle.reading.specs.Books.{Item-view, item-shown, item-size, item-count, Book-view, first-item, shown-first, passed, counted, next-of, after-item, sized-shown, sized-first}
 

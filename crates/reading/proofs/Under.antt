@@ -1,7 +1,7 @@
 -- The rule and the query under a header. Assumes nothing.
-use mathlib.Core.Path.{_≡_, refl, sym, ap, ap₂, subst, _∙_}
-use mathlib.Core.List.{List, [], _∷_, _++_, append-nil}
-use Prim.Native.Nat.{ℕ, zero, suc, _+_, _≤_}
+use mathlib.Core.Path.{_≡_, refl, sym, ap, _∙_}
+use mathlib.Core.List.{List, [], _∷_, append-nil}
+use Prim.Native.Nat.{ℕ, suc, _+_}
 use native.Mathlib.Omega.{arith}
 use lib.ListN.{length, take, drop}
 use Rattle.std.specs.declared.result.Result.{Result}
@@ -11,7 +11,7 @@ use Rattle.terms.specs.Terms.{Term}
 use Rattle.terms.specs.Bytes.{encoding, encodings}
 use Rattle.grammar.specs.declared.faults.RuleFault.{RuleFault}
 use Rattle.grammar.specs.Asking.{go}
-use Rattle.grammar.specs.TermCommands.{Commands, end, unfit, next, commands, terms}
+use Rattle.grammar.specs.TermCommands.{end, unfit, next, commands, terms}
 use Rattle.grammar.specs.Singles.{Header, header-size, used-up, body, rule-due, rule-of, query-due, query-of}
 use Rattle.grammar.proofs.Counting.{Reading, Counted, counted}
 use Rattle.reading.specs.Views.{seen, frame-bytes, parts-of, parts-read, Rule-view, rule-shown, rule-under, Query-view, query-shown, query-under}

@@ -15,7 +15,6 @@ use Rattle.grammar.specs.declared.faults.BookFault.{BookFault}
 use Rattle.grammar.specs.declared.faults.BookFault.the-variants.{TooLong}
 use Rattle.grammar.specs.Asking.{ask, go}
 use Rattle.grammar.specs.Items.{Item, world, rule, item, counts, with-item, items-past, book, most-bytes}
-use Rattle.grammar.proofs.Framed.{asked}
 use Rattle.grammar.proofs.Places.{item-inside}
 use Rattle.grammar.proofs.Rows.{one-more, no-more}
 use Rattle.reading.specs.Views.{seen}

@@ -14,7 +14,7 @@ use Rattle.grammar.specs.declared.faults.RuleFault.the-variants.{Command}
 use Rattle.grammar.specs.declared.faults.BookFault.{BookFault}
 use Rattle.grammar.specs.declared.faults.BookFault.the-variants.{Rule as InRule, TooLong, TooManyRules}
 use Rattle.grammar.specs.Asking.{ask, go}
-use Rattle.grammar.specs.Singles.{Header, header, body, rule-due, rule-of}
+use Rattle.grammar.specs.Singles.{Header, header, body}
 use Rattle.grammar.specs.Items.{Item, world, rule, item, counts, rules, most-bytes, most-rules}
 use Rattle.reading.specs.declared.books.Item.{Item as Read-item}
 use Rattle.reading.specs.declared.books.Item.the-variants.{World as Read-world, Rule as Read-rule}

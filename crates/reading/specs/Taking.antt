@@ -15,7 +15,7 @@ use Rattle.grammar.specs.declared.faults.CommandFault.the-variants.{Operands}
 use Rattle.grammar.specs.declared.faults.RuleFault.{RuleFault}
 use Rattle.grammar.specs.declared.faults.RuleFault.the-variants.{LengthLeft}
 use Rattle.grammar.specs.Asking.{go}
-use Rattle.grammar.specs.TermCommands.{command, operands, Commands, commands, terms}
+use Rattle.grammar.specs.TermCommands.{command, operands, Commands}
 
 -- the operand of the command at p
 abbrev pub one-byte : ℕ → List ℕ → Result ℕ CommandFault

@@ -1,13 +1,13 @@
 // Books.
 ghost use mathlib.Core.Path.{_≡_};
-ghost use Prim.Native.Nat.{_+_, _^_, _<_, _≤_};
+ghost use Prim.Native.Nat.{_+_, _^_, _<_};
 ghost use lib.ListN.{length, drop};
 ghost use Rattle.std.specs.Options.{mapped};
 ghost use Rattle.std.specs.Vec.{made};
-ghost use Rattle.grammar.specs.Items.{item as grammar-item, book as grammar-book, rules as rules-of};
+ghost use Rattle.grammar.specs.Items.{book as grammar-book};
 ghost use Rattle.reading.specs.Views.{seen, header-view, rule-view};
 ghost use Rattle.reading.specs.Taking.{one-byte};
-ghost use Rattle.reading.specs.Books.{numbered-by, rule-header, rule-item-shown, item-view, item-shown, item-size, Book-view, book-view, opened, first-item, shown-first, item-count, sized-view, sized-first, Inside, next-of, after-item, rule-count};
+ghost use Rattle.reading.specs.Books.{numbered-by, rule-header, rule-item-shown, item-view, item-size, book-view, opened, first-item, shown-first, item-count, sized-view, sized-first, Inside, next-of, after-item, rule-count};
 use crate::rules::Header;
 use crate::rules::RULE;
 use crate::rules::Rule;

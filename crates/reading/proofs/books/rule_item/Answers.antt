@@ -1,5 +1,5 @@
 use native.Mathlib.Omega.{arith}
-use lib.ListN.{length, drop}
+use lib.ListN.{drop}
 use Rattle.std.proofs.shelf.Results.{err-from-errBy, made-at-ok}
 use Rattle.reading.specs.Views.{header-view, rule-view}
 use Rattle.reading.proofs.Numbered.{numbered-ok, header-refused, many, few}

@@ -8,8 +8,8 @@ use Rattle.std.specs.declared.option.Option.the-variants.{Some}
 use Rattle.std.specs.declared.result.Result.the-variants.{Ok}
 use Rattle.std.proofs.shelf.Lists.{take-rest}
 use Rattle.std.proofs.shelf.Results.{err-from-errBy}
-use Rattle.reading.specs.Books.{item-view, sized-view, item-count, Inside, book-view}
-use Rattle.reading.proofs.Sizes.{at-end, shows, moves, none-shows, at-none, fault-shows}
+use Rattle.reading.specs.Books.{item-view, sized-view, Inside, book-view}
+use Rattle.reading.proofs.Sizes.{at-end, shows, moves, none-shows, fault-shows}
 use Rattle.reading.proofs.books.Book.item.Needs as need
 use Rattle.reading.proofs.books.Book.item.Needs.{In-Some}
 

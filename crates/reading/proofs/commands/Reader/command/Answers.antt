@@ -1,4 +1,4 @@
-use mathlib.Core.Path.{sym, ap}
+use mathlib.Core.Path.{ap}
 use Prim.Native.Nat.{_+_}
 use borrow.Author.Needs.{needs}
 use lib.ListN.{drop}
