@@ -1,0 +1,6 @@
+pub mod Slips
+pub mod Opening
+pub mod Runs
+pub mod Checker
+pub mod Refusals
+pub mod Examples

@@ -1,0 +1,56 @@
+// Answers, slips, runs of calls on a search, and the checker. The definitions stand in specs/; the types below are
+// shared by them and by the code that meets them, and each function carries a theorem in its contract.
+ghost use Rattle.slips.specs.Examples.{Worked};
+use grammar::faults::RuleFault;
+use grammar::faults::SingleFault;
+
+// Why a search is not opened.
+#[derive(Clone, Copy)]
+pub enum OpeningFault {
+    InQuery(SingleFault),
+    // more rules than a search may have
+    TooManyRules,
+    // more bytes of rules and query together than a search may have
+    TooManyBytes,
+}
+
+// Why an answer is not handed out or not written.
+#[derive(Clone, Copy)]
+pub enum WriteRefusal {
+    // no answer stands
+    NoAnswer,
+    // the buffer is too short
+    NoRoom,
+}
+
+// A fault in a slip.
+#[derive(Clone, Copy)]
+pub enum SlipFault {
+    // in a term, or in the operands of a step
+    Reading(RuleFault),
+    // it does not open as a slip for the query
+    Opening,
+    // a goal remains, and no step begins here
+    NoStep { place: usize },
+    // as many steps as a slip may have were before this one
+    TooManySteps { place: usize },
+    // there is no such rule
+    NoRule { place: usize },
+    // the step's head is another term than the first goal
+    OtherGoal { place: usize },
+    // no goal remains, and the slip does not end here
+    NoEnd { place: usize },
+}
+
+// Why the checker does not pass a slip.
+#[derive(Clone, Copy)]
+pub enum CheckFault {
+    InQuery(SingleFault),
+    // with the number of steps completed before it
+    InSlip { fault: SlipFault, steps: u16 },
+}
+
+// The worked examples compute to what is stated of them.
+pub fn examples_work()
+    ensures { λ _. ⌜ Worked ⌝ }
+{}
