@@ -1,6 +1,7 @@
 // Answers, slips, runs of calls on a search, and the checker. The definitions stand in specs/; the types below are
 // shared by them and by the code that meets them, and each function carries a theorem in its contract.
 ghost use Rattle.slips.specs.Examples.{Worked};
+ghost use Rattle.slips.specs.Laws.{What-passes-follows};
 use grammar::faults::RuleFault;
 use grammar::faults::SingleFault;
 
@@ -49,6 +50,11 @@ pub enum CheckFault {
     // with the number of steps completed before it
     InSlip { fault: SlipFault, steps: u16 },
 }
+
+// A slip that passes the checker, whatever its bytes, claims only replacements that follow from the rules.
+pub fn what_passes_follows()
+    ensures { λ _. ⌜ What-passes-follows ⌝ }
+{}
 
 // The worked examples compute to what is stated of them.
 pub fn examples_work()
