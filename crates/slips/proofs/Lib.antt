@@ -1,2 +1,5 @@
 pub mod Examples
 pub mod Passing
+pub mod Unknowns
+pub mod Atoms
+pub mod Written
