@@ -3,3 +3,4 @@ pub mod Passing
 pub mod Unknowns
 pub mod Atoms
 pub mod Written
+pub mod Own
