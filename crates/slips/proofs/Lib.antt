@@ -4,3 +4,4 @@ pub mod Unknowns
 pub mod Atoms
 pub mod Written
 pub mod Own
+pub mod Runs
