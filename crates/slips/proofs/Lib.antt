@@ -5,3 +5,5 @@ pub mod Atoms
 pub mod Written
 pub mod Own
 pub mod Runs
+pub mod Opening
+pub mod Standing

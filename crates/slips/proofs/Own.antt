@@ -45,7 +45,7 @@ fit-drop v (suc n) (t ∷ ts) h = fit-drop v n ts (h .1)
 
 -- ── terms under the terms of a step ──
 
-cell-renumbered : (xs : List ℕ) (cells : List Term) (k : ℕ) → cell (map (renumbered xs) cells) k ≡ renumbered xs (cell cells k)
+pub cell-renumbered : (xs : List ℕ) (cells : List Term) (k : ℕ) → cell (map (renumbered xs) cells) k ≡ renumbered xs (cell cells k)
 cell-renumbered xs [] k = refl
 cell-renumbered xs (t ∷ cells) zero = refl
 cell-renumbered xs (t ∷ cells) (suc k) = cell-renumbered xs cells k
@@ -149,7 +149,7 @@ module _ (rs : List Rule) (q : Query) (closed : All-closed rs) (few : length rs 
       let few-enough = few-unknowns (length (p .cells)) (p .cells) (k .tidy .cells-within) in
       all-renumbered-fit (all-appeared [] (p .cells)) unknowns (omega (arith, few-enough, k .few-cells)) (p .cells) (all-appeared-known [] (p .cells)) (k .small)
 
-  first-count : (p : Place) → Ready rs q p → length (take (q .variables) (numbered (p .cells))) ≡ q .variables
+  pub first-count : (p : Place) → Ready rs q p → length (take (q .variables) (numbered (p .cells))) ≡ q .variables
   first-count p k = length-take-le (q .variables) (numbered (p .cells)) (omega (arith, k .tidy .wide, length-map (p .cells) (renumbered (all-appeared [] (p .cells)))))
 
   -- the slip of such a place fits

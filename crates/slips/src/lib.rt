@@ -1,7 +1,7 @@
 // Answers, slips, runs of calls on a search, and the checker. The definitions stand in specs/; the types below are
 // shared by them and by the code that meets them, and each function carries a theorem in its contract.
 ghost use Rattle.slips.specs.Examples.{Worked};
-ghost use Rattle.slips.specs.Laws.{What-passes-follows};
+ghost use Rattle.slips.specs.Laws.{What-passes-follows, Own-slips-pass, Written-reads-back, Looks-leave, Buffers-stay};
 use grammar::faults::RuleFault;
 use grammar::faults::SingleFault;
 
@@ -54,6 +54,27 @@ pub enum CheckFault {
 // A slip that passes the checker, whatever its bytes, claims only replacements that follow from the rules.
 pub fn what_passes_follows()
     ensures { λ _. ⌜ What-passes-follows ⌝ }
+{}
+
+// Whatever the calls, a slip that the search writes passes the checker for its rules and its query.
+pub fn own_slips_pass()
+    ensures { λ _. ⌜ Own-slips-pass ⌝ }
+{}
+
+// Wherever an answer can be held, answer and slip write it into every buffer that has room, and reading gives back the
+// terms and steps that were written.
+pub fn written_reads_back()
+    ensures { λ _. ⌜ Written-reads-back ⌝ }
+{}
+
+// Hold, answer, slip and tally change nothing that any later call returns.
+pub fn looks_leave()
+    ensures { λ _. ⌜ Looks-leave ⌝ }
+{}
+
+// A buffer keeps its length and its bytes beyond those written, and every byte where the call is refused.
+pub fn buffers_stay()
+    ensures { λ _. ⌜ Buffers-stay ⌝ }
 {}
 
 // The worked examples compute to what is stated of them.
