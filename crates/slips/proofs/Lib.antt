@@ -7,3 +7,4 @@ pub mod Own
 pub mod Runs
 pub mod Opening
 pub mod Standing
+pub mod Given

@@ -1,7 +1,7 @@
 // Answers, slips, runs of calls on a search, and the checker. The definitions stand in specs/; the types below are
 // shared by them and by the code that meets them, and each function carries a theorem in its contract.
 ghost use Rattle.slips.specs.Examples.{Worked};
-ghost use Rattle.slips.specs.Laws.{What-passes-follows, Own-slips-pass, Written-reads-back, Looks-leave, Buffers-stay};
+ghost use Rattle.slips.specs.Laws.{What-passes-follows, Own-slips-pass, None-means-none, In-order, Written-reads-back, Looks-leave, Buffers-stay};
 use grammar::faults::RuleFault;
 use grammar::faults::SingleFault;
 
@@ -59,6 +59,17 @@ pub fn what_passes_follows()
 // Whatever the calls, a slip that the search writes passes the checker for its rules and its query.
 pub fn own_slips_pass()
     ensures { λ _. ⌜ Own-slips-pass ⌝ }
+{}
+
+// Whenever next says that there is no more answer, in any list of calls, every ground replacement of the query's
+// variables that follows is covered by an answer given since opening or the last rewind, in the bytes that answer writes.
+pub fn none_means_none()
+    ensures { λ _. ⌜ None-means-none ⌝ }
+{}
+
+// Of two answers without a rewind between them, the slip of the later one has the later rule numbers in dictionary order.
+pub fn in_order()
+    ensures { λ _. ⌜ In-order ⌝ }
 {}
 
 // Wherever an answer can be held, answer and slip write it into every buffer that has room, and reading gives back the
