@@ -5,30 +5,49 @@ use lib.Dec.{ltb}
 use lib.ListN.{length}
 use Rattle.unification.specs.Unification.{unify}
 use Rattle.resolution.specs.Lines.{lines}
-use Rattle.slips.specs.Examples.{Worked}
+use Rattle.slips.specs.Examples.{Written, Limited, Checked, Long, Opening-told, Worked}
 
 and-false : (b : Bool) → b && false ≡ false
 and-false true = refl
 and-false false = refl
 
-pub worked : Worked
+written : Written
 unfolding unify lines
-worked =
+written =
     record {
       rule-in-bytes = refl;
-      opens = refl;
       path = refl;
-      passes = refl;
-      cut = (_, refl, refl, refl, refl, refl);
-      other-rule = (_, refl, refl, refl, refl, refl);
-      inside-itself-fails = refl;
+      second-slip = refl;
+      two-goals-slip = refl;
       one-unknown = refl;
+      by-first-appearance = refl;
+      unknowns-over-the-slip = refl;
       no-goal = refl;
+      inside-itself-fails = refl;
+    }
+
+limited : Limited
+unfolding unify lines
+limited =
+    record {
       spent-at-512 = refl;
       deep-at-513 = refl;
       cells-after-32 = refl;
       cells-after-31 = refl;
-      unknowns-over-the-slip = refl;
+    }
+
+checked : Checked
+unfolding unify lines
+checked =
+    record {
+      passes = refl;
+      second-passes = refl;
+      two-goals-pass = refl;
+      any-unknowns = refl;
+      cut = (_, refl, refl, refl, refl, refl);
+      other-rule = (_, refl, refl, refl, refl, refl);
+      goals-in-order = (_, refl, refl, refl, refl, refl);
+      other-unknown = (_, refl, refl, refl, refl, refl);
       query-first = (_, refl, refl, refl, refl, refl);
       no-slip = (_, refl, refl, refl, refl, refl);
       opening-alone = (_, refl, refl, refl, refl, refl);
@@ -43,13 +62,30 @@ worked =
       other-variables = (_, refl, refl, refl, refl, refl);
       term-missing-in-step = (_, refl, refl, refl, refl, refl);
       bytes-after-end = (_, refl, refl, refl, refl, refl);
+      last-number = λ rs v. and-false (ltb 65535 (length rs));
+    }
+
+long : Long
+unfolding unify lines
+long =
+    record {
       last-step-allowed = refl;
       one-step-more = (_, refl, refl, refl, refl, refl);
       steps-before-rule = (_, refl, refl, refl, refl, refl);
-      last-number = λ rs v. and-false (ltb 65535 (length rs));
+    }
+
+opening-told : Opening-told
+unfolding unify lines
+opening-told =
+    record {
+      opens = refl;
       no-query = (_, refl, refl, refl, refl);
-      rules-counted = (_, refl, refl, refl, refl);
       query-before-rules = (_, refl, refl, refl, refl);
+      rules-counted = (_, refl, refl, refl, refl);
+      rules-before-bytes = (_, refl, refl, refl, refl);
       most-bytes-fit = refl;
       bytes-counted = (_, refl, refl, refl, refl);
     }
+
+pub worked : Worked
+worked = record { written = written; limited = limited; checked = checked; long = long; opening-told = opening-told }

@@ -17,7 +17,7 @@ use Rattle.resolution.specs.Follows.{Covers}
 use Rattle.resolution.specs.Lines.{Step, Place, rules-taken}
 use Rattle.resolution.specs.Search.{standing, Search, Called, next}
 use Rattle.resolution.specs.Calls.{Session, given-by, given-with, after-call, after-calls}
-use Rattle.resolution.specs.Laws.{Each, Some, Later, Ordered} 
+use Rattle.resolution.specs.Laws.{Each, Some, Later, Ordered}
 use Rattle.resolution.specs.Laws
 use Rattle.resolution.proofs.Cells.{map-append}
 use Rattle.resolution.proofs.Completeness
@@ -61,34 +61,34 @@ newest-after o calls a k =
 
 -- ── answers stay given until a rewind ──
 
-no-rewind-append : (o : Opened) (xs ys : List Request) → No-rewind o xs → No-rewind o ys → No-rewind o (xs ++ ys)
-no-rewind-append o [] ys h k = k
-no-rewind-append o (to-next a ∷ xs) ys h k = no-rewind-append o xs ys h k
-no-rewind-append o (to-rewind ∷ xs) ys h k = absurd h
-no-rewind-append o (to-tally ∷ xs) ys h k = no-rewind-append o xs ys h k
-no-rewind-append o (to-hold ∷ xs) ys h k = no-rewind-append o xs ys h k
-no-rewind-append o (to-answer buffer ∷ xs) ys h k = no-rewind-append o xs ys h k
-no-rewind-append o (to-slip buffer ∷ xs) ys h k = no-rewind-append o xs ys h k
+no-rewind-append : (xs ys : List Request) → No-rewind xs → No-rewind ys → No-rewind (xs ++ ys)
+no-rewind-append [] ys h k = k
+no-rewind-append (to-next a ∷ xs) ys h k = no-rewind-append xs ys h k
+no-rewind-append (to-rewind ∷ xs) ys h k = absurd h
+no-rewind-append (to-tally ∷ xs) ys h k = no-rewind-append xs ys h k
+no-rewind-append (to-hold ∷ xs) ys h k = no-rewind-append xs ys h k
+no-rewind-append (to-answer buffer ∷ xs) ys h k = no-rewind-append xs ys h k
+no-rewind-append (to-slip buffer ∷ xs) ys h k = no-rewind-append xs ys h k
 
 module _ (texts : List (List ℕ)) (bs : List ℕ) (o : Opened) (h : Opens texts bs o) where
   -- the answer at the place p was given in these calls
   abbrev Gave : List Request → Place → Type 0
   Gave calls p = (g : Given o calls) × (g .slip ≡ slip-of (o .rules) (o .query) p) × Ready (o .rules) (o .query) p
 
-  one-later : (calls : List Request) (r : Request) → No-rewind o (r ∷ []) → (p : Place) → Gave calls p → Gave (calls ++ (r ∷ [])) p
+  one-later : (calls : List Request) (r : Request) → No-rewind (r ∷ []) → (p : Place) → Gave calls p → Gave (calls ++ (r ∷ [])) p
   one-later calls r n p (g, s, k) =
       (record {
         earlier = g .earlier;
         allowance = g .allowance;
         later = g .later ++ (r ∷ []);
         split = ap (λ l. l ++ (r ∷ [])) (g .split) ∙ append-assoc (g .earlier) (to-next (g .allowance) ∷ g .later) (r ∷ []);
-        since = no-rewind-append o (g .later) (r ∷ []) (g .since) n;
+        since = no-rewind-append (g .later) (r ∷ []) (g .since) n;
         says = g .says;
         slip = g .slip;
         stands = g .stands;
       }, s, k)
 
-  each-later : (calls : List Request) (r : Request) → No-rewind o (r ∷ []) → (ps : List Place) → Each (Gave calls) ps → Each (Gave (calls ++ (r ∷ []))) ps
+  each-later : (calls : List Request) (r : Request) → No-rewind (r ∷ []) → (ps : List Place) → Each (Gave calls) ps → Each (Gave (calls ++ (r ∷ []))) ps
   each-later calls r n [] g = tt
   each-later calls r n (p ∷ ps) g = (one-later calls r n p (g .0), each-later calls r n ps (g .1))
 
@@ -191,7 +191,7 @@ given-behind (Err x) p ps = ([], refl)
 behind-more : (ps now then : List Place) → Behind ps now → Behind now then → Behind ps then
 behind-more ps now then (a, e) (b, f) = (b ++ a, f ∙ ap (λ l. b ++ l) e ∙ sym (append-assoc b a ps))
 
-stays-given : (o : Opened) (calls : List Request) → No-rewind o calls → (z : Session) → Behind (z .given) (after-calls (o .rules) (o .query) (map move calls) z .given)
+stays-given : (o : Opened) (calls : List Request) → No-rewind calls → (z : Session) → Behind (z .given) (after-calls (o .rules) (o .query) (map move calls) z .given)
 stays-given o [] n z = ([], refl)
 stays-given o (to-next a ∷ calls) n z =
     let z′ : Session = after-call (o .rules) (o .query) (move (to-next a)) z in

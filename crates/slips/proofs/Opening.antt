@@ -17,7 +17,7 @@ use Rattle.grammar.proofs.Alone.{rules-inverse, queries-inverse}
 use Rattle.unification.specs.Variables.{All-within}
 use Rattle.resolution.specs.Rules.{Closed, All-closed, Well-declared}
 use Rattle.resolution.specs.Cells.{fresh}
-use Rattle.resolution.specs.Limits.{cell-limit}
+use Rattle.resolution.specs.Limits.{cell-limit, step-limit}
 use Rattle.resolution.specs.Calls.{session}
 use Rattle.resolution.proofs.Limits.{within-limits}
 use Rattle.resolution.proofs.Sessions.{all-kept}
@@ -110,5 +110,5 @@ module _ (texts : List (List ℕ)) (bs : List ℕ) (o : Opened) (h : Opens texts
           all-kept rs (Fitting rs (well-declared .0) q) (fitting-stays rs (well-declared .0) q (well-declared .1)) q (fitting-opening rs (well-declared .0) q (well-declared .1)) (map move calls)
           .now-kept .0
 
-      limits : (length (reached rs q calls .search .place .branch) ≤ Rattle.resolution.specs.Limits.step-limit) × (length (reached rs q calls .search .place .cells) ≤ cell-limit)
+      limits : (length (reached rs q calls .search .place .branch) ≤ step-limit) × (length (reached rs q calls .search .place .cells) ≤ cell-limit)
       limits = within-limits rs q (omega (arith, query-fit .few-variables)) (map move calls)

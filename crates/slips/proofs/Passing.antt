@@ -16,7 +16,7 @@ use Rattle.grammar.specs.Asking.{ask, go}
 use Rattle.grammar.specs.Singles.{query}
 use Rattle.grammar.proofs.Framed.{ask-yes, go-yes}
 use Rattle.grammar.proofs.Alone.{queries-inverse}
-use Rattle.unification.specs.Ground.{Ground, Replacement, replaced, all-replaced}
+use Rattle.unification.specs.Ground.{ground-pair, Replacement, replaced, all-replaced}
 use Rattle.unification.specs.Variables.{Within, All-within}
 use Rattle.unification.proofs.Ground.{all-replaced-append}
 use Rattle.resolution.specs.Rules.{rule}
@@ -49,7 +49,7 @@ same-equal (pair s t) (pair u w) e =
 replaced-under : (γ : Replacement) (ts : List Term) (t : Term) → replaced γ (present ts t) ≡ replaced (λ x. replaced γ (cell ts x)) t
 replaced-under γ ts (var x) = refl
 replaced-under γ ts (atom a) = refl
-replaced-under γ ts (pair s t) = ap₂ Rattle.unification.specs.Ground.ground-pair (replaced-under γ ts s) (replaced-under γ ts t)
+replaced-under γ ts (pair s t) = ap₂ ground-pair (replaced-under γ ts s) (replaced-under γ ts t)
 
 all-under : (γ : Replacement) (ts us : List Term) → all-replaced γ (map (present ts) us) ≡ all-replaced (λ x. replaced γ (cell ts x)) us
 all-under γ ts [] = refl
@@ -114,19 +114,26 @@ pub all-fits-within : (v : ℕ) (ts : List Term) → All-fit v ts → All-within
 all-fits-within v [] h = tt
 all-fits-within v (t ∷ ts) h = (fits-within v t (h .0), all-fits-within v ts (h .1))
 
+-- the query's goals under the first terms are the goals under any replacement that these become
+claimed-goals : (rs : List Rule) (q : Query) (ts : List Term) (θ : Replacement) → All-within (q .variables) (q .goals) → (c : Covers (q .variables) ts θ)
+    → All-follow rs (all-replaced (c .0) (map (present ts) (q .goals))) → Query-follows rs q θ
+claimed-goals rs q ts θ w (γ, agrees) a =
+    subst (All-follow rs)
+    (map-map (replaced γ) (present ts) (q .goals)
+    ∙ map-same (q .variables) (λ t. replaced γ (present ts t)) (replaced θ) (replaced-as γ θ ts (q .variables) agrees) (q .goals) w) a
+
+-- a slip passed for a query that was read
+abbrev passed-for : List Rule → List ℕ → Query → Result Unit CheckFault
+passed-for rs slip q =
+    ask (opens (q .variables) slip) (InSlip Opening 0)
+    (go (terms-at (q .variables) 2 slip) (λ e. InSlip (Reading e) 0) (λ t. steps rs slip step-limit 0 (t .1) (map (present (t .0)) (q .goals))))
+
 pub what-passes-follows : What-passes-follows
 what-passes-follows rs bs q a e slip passes θ claims =
-    let b = go-yes (query bs) InQuery _ tt passes in
-    let same-query : b .0 ≡ q = (let k = b .1 in cc) in
-    let passing = subst
-            (λ (q : Query). ask (opens (q .variables) slip) (InSlip Opening 0) (go (terms-at (q .variables) 2 slip) (λ e. InSlip (Reading e) 0) (λ t. steps rs slip step-limit 0 (t .1) (map (present (t .0)) (q .goals)))) ≡ Ok tt)
-            same-query (b .2) in
+    let b = go-yes (query bs) InQuery (passed-for rs slip) tt passes in
+    let passing = subst (λ (q : Query). passed-for rs slip q ≡ Ok tt) (let k = b .1 in cc) (b .2) in
     let c = ask-yes (opens (q .variables) slip) (InSlip Opening 0) _ tt passing in
     let d = go-yes (terms-at (q .variables) 2 slip) (λ e. InSlip (Reading e) 0) _ tt (c .1) in
-    let ts : List Term = d .0 .0 in
-    let covers : Covers (q .variables) ts θ = subst (λ r. Claimed (q .variables) r θ) (d .1) claims in
-    let within : All-within (q .variables) (q .goals) = all-fits-within (q .variables) (q .goals) (queries-inverse .only-encodings bs q a e .0 .declared) in
-    subst (All-follow rs)
-    (map-map (replaced (covers .0)) (present ts) (q .goals)
-    ∙ map-same (q .variables) (λ t. replaced (covers .0) (present ts t)) (replaced θ) (replaced-as (covers .0) θ ts (q .variables) (covers .1)) (q .goals) within)
-    (steps-follow rs (covers .0) slip step-limit 0 (d .0 .1) (map (present ts) (q .goals)) (d .2))
+    let covers : Covers (q .variables) (d .0 .0) θ = subst (λ r. Claimed (q .variables) r θ) (d .1) claims in
+    claimed-goals rs q (d .0 .0) θ (all-fits-within (q .variables) (q .goals) (queries-inverse .only-encodings bs q a e .0 .declared)) covers
+    (steps-follow rs (covers .0) slip step-limit 0 (d .0 .1) (map (present (d .0 .0)) (q .goals)) (d .2))

@@ -1,13 +1,15 @@
 -- Where an answer stands, answer and slip write it, it reads back, and its slip passes. Assumes nothing.
 use mathlib.Core.Path.{_≡_, refl, sym, _∙_, ap, ap₂, subst}
 use mathlib.Core.List.{List, [], _∷_, _++_, map, append-nil}
-use Prim.Native.Nat.{ℕ, _+_, _≤_, _<_}
+use Prim.Native.Nat.{ℕ, zero, suc, _+_, _<_}
 use native.Mathlib.Omega.{arith}
 use lib.ListN.{length, take, drop, getD}
 use lib.Seq.{getD-take}
 use Rattle.std.specs.declared.result.Result.{Result}
 use Rattle.std.specs.declared.result.Result.the-variants.{Ok, Err}
+use Rattle.terms.specs.declared.Form.the-variants.{Slips}
 use Rattle.terms.specs.Terms.{Term, atom, Rule, Query}
+use Rattle.terms.specs.Bytes.{encodings}
 use Rattle.unification.specs.Ground.{Replacement, replaced}
 use Rattle.resolution.specs.Cells.{cell}
 use Rattle.resolution.specs.Follows.{Covers}
@@ -72,8 +74,8 @@ own-slips-pass texts bs o h calls buffer now n e =
 
 known-cell : (xs : List ℕ) (ts : List Term) (k : ℕ) → All-known xs ts → Known xs (cell ts k)
 known-cell xs [] k h = tt
-known-cell xs (t ∷ ts) Prim.Native.Nat.zero h = h .0
-known-cell xs (t ∷ ts) (Prim.Native.Nat.suc k) h = known-cell xs ts k (h .1)
+known-cell xs (t ∷ ts) zero h = h .0
+known-cell xs (t ∷ ts) (suc k) h = known-cell xs ts k (h .1)
 
 covers-numbered : (n : ℕ) (cells : List Term) (θ : Replacement) → Covers n cells θ → Covers n (take n (numbered cells)) θ
 covers-numbered n cells θ (γ, agrees) = (δ, λ k l. cell-is k l ∙ agrees k l)
@@ -100,7 +102,7 @@ answer-claims texts bs o h p k θ c =
     fits : Fit-slip s
     fits = slip-fits (o .rules) (o .query) (well-declared texts bs o h .0) (few texts bs o h) p k
 
-    read : terms-at (o .query .variables) 2 (answer-bytes s) ≡ Ok (s .terms, 2 + length (Rattle.terms.specs.Bytes.encodings Rattle.terms.specs.declared.Form.the-variants.Slips (s .terms)))
+    read : terms-at (o .query .variables) 2 (answer-bytes s) ≡ Ok (s .terms, 2 + length (encodings Slips (s .terms)))
     read =
         terms-written (answer-bytes s) 2 (o .query .variables) (s .terms) [] (sym (append-nil _))
         (first-count (o .rules) (o .query) (well-declared texts bs o h .0) (few texts bs o h) p k) (fits .first-fit)

@@ -18,7 +18,7 @@ use Rattle.resolution.specs.declared.Word.{Word}
 use Rattle.resolution.specs.declared.Word.the-variants.{Answer, Spent, Stopped, NoMore}
 use Rattle.resolution.specs.declared.Refusal.the-variants.{Allowance}
 use Rattle.resolution.specs.Rules.{rule}
-use Rattle.resolution.specs.Examples.{list-of-3, fact, chain, from-5, twins, inside-itself, no-goals, circle, ask-circle}
+use Rattle.resolution.specs.Examples.{list-of-3, fact, chain, from-5, before-7, twins, inside-itself, no-goals, circle, ask-circle}
 use Rattle.slips.specs.declared.OpeningFault.{OpeningFault}
 use Rattle.slips.specs.declared.OpeningFault.the-variants.{InQuery as Query-unfit, TooManyRules, TooManyBytes}
 use Rattle.slips.specs.declared.WriteRefusal.the-variants.{NoAnswer, NoRoom}
@@ -68,6 +68,22 @@ same-again = record { variables = 2; head = list-of-3 (atom 7) (var 1) (var 0); 
 abbrev pub same-query : Query
 same-query = record { variables = 2; goals = list-of-3 (atom 7) (var 0) (pair (var 1) (atom 9)) ∷ [] }
 
+-- a rule that puts its first variable into a pair, and the query that meets it with two variables
+abbrev pub boxed : Rule
+boxed = record { variables = 2; head = list-of-3 (atom 7) (pair (atom 1) (var 0)) (var 1); goals = [] }
+
+abbrev pub boxed-query : Query
+boxed-query = record { variables = 2; goals = list-of-3 (atom 7) (var 0) (var 1) ∷ [] }
+
+-- the slips of the second way from 5, and of the way to what is before 7
+abbrev pub slip-to-7 : List ℕ
+slip-to-7 =
+    0x20 ∷ 0x01 ∷ 0x01 ∷ 0x00 ∷ 0x07 ∷ 0x21 ∷ 0x00 ∷ 0x03 ∷ 0x03 ∷ 0x01 ∷ 0x00 ∷ 0x05 ∷ 0x01 ∷ 0x00 ∷ 0x07 ∷ 0x01 ∷ 0x00 ∷ 0x06
+    ∷ 0x21 ∷ 0x00 ∷ 0x00 ∷ 0x00 ∷ 0x21 ∷ 0x00 ∷ 0x02 ∷ 0x02 ∷ 0x01 ∷ 0x00 ∷ 0x06 ∷ 0x01 ∷ 0x00 ∷ 0x07 ∷ 0x21 ∷ 0x00 ∷ 0x01 ∷ 0x00 ∷ 0x2F ∷ []
+
+abbrev pub slip-before-7 : List ℕ
+slip-before-7 = take 19 slip-to-6 ++ (0x21 ∷ 0x00 ∷ 0x01 ∷ 0x00 ∷ 0x2F ∷ [])
+
 -- n steps of the rule 0, which declares no variable
 abbrev pub rounds : ℕ → List ℕ
 rounds zero = []
@@ -76,11 +92,11 @@ rounds (suc n) = 0x21 ∷ 0x00 ∷ 0x00 ∷ 0x00 ∷ rounds n
 abbrev pub circle-query : List ℕ
 circle-query = query-bytes (ask-circle 5 0)
 
-pub record Worked : Type 0 where
+-- answers and slips in the buffers of calls
+pub record Written : Type 0 where
   pub rule-in-bytes :
       rule-bytes (rule chain 0)
       ≡ 0x10 ∷ 0x00 ∷ 0x00 ∷ 0x00 ∷ 0x0F ∷ 0x03 ∷ 0x01 ∷ 0x00 ∷ 0x02 ∷ 0x03 ∷ 0x01 ∷ 0x00 ∷ 0x05 ∷ 0x03 ∷ 0x01 ∷ 0x00 ∷ 0x06 ∷ 0x01 ∷ 0x00 ∷ 0x00 ∷ []
-  pub opens : opening (map rule-bytes chain) (query-bytes from-5) ≡ Ok (record { rules = chain; query = from-5 })
   pub path :
       run chain from-5
       (to-hold ∷ to-answer (1 ∷ []) ∷ to-next 1000 ∷ to-hold ∷ to-answer (7 ∷ 7 ∷ 7 ∷ 7 ∷ 7 ∷ 8 ∷ 9 ∷ []) ∷ to-answer (7 ∷ 7 ∷ 7 ∷ 7 ∷ []) ∷ to-next 1000001
@@ -104,20 +120,21 @@ pub record Worked : Type 0 where
       ∷ says Answer 4
       ∷ wrote (Ok 5) to-6
       ∷ []
-  pub passes : check chain (query-bytes from-5) slip-to-6 ≡ Ok tt
-  pub cut : Refused chain (query-bytes from-5) (take 19 slip-to-6) 23 19 4 (Some 2)
-  pub other-rule : Refused chain (query-bytes from-5) (with-second (0x21 ∷ 0x00 ∷ 0x01 ∷ 0x00 ∷ 0x2F ∷ [])) 22 15 4 (Some 1)
-  pub inside-itself-fails : run twins inside-itself (to-next 1000 ∷ []) ≡ says NoMore 1 ∷ []
+  pub second-slip :
+      run chain from-5 (to-next 1000 ∷ to-next 1000 ∷ to-slip (replicate 37 0) ∷ to-answer (replicate 5 0) ∷ [])
+      ≡ says Answer 4 ∷ says Answer 10 ∷ wrote (Ok 37) slip-to-7 ∷ wrote (Ok 5) (take 5 slip-to-7) ∷ []
+  pub two-goals-slip : run chain before-7 (to-next 1000 ∷ to-slip (replicate 24 0) ∷ []) ≡ says Answer 6 ∷ wrote (Ok 24) slip-before-7 ∷ []
   pub one-unknown :
       run twins pairs (to-next 1000 ∷ to-answer (replicate 8 0) ∷ [])
       ≡ says Answer 1 ∷ wrote (Ok 8) (0x20 ∷ 0x02 ∷ 0x04 ∷ 0x00 ∷ 0x00 ∷ 0x04 ∷ 0x00 ∷ 0x00 ∷ []) ∷ []
-  pub no-goal :
-      run [] no-goals (to-next 0 ∷ to-answer (replicate 5 0) ∷ to-next 0 ∷ [])
-      ≡ says Answer 0 ∷ wrote (Ok 5) (0x20 ∷ 0x01 ∷ 0x04 ∷ 0x00 ∷ 0x00 ∷ []) ∷ says NoMore 0 ∷ []
-  pub spent-at-512 : run (circle 5 0 ∷ []) (ask-circle 5 0) (to-next 512 ∷ []) ≡ says Spent 512 ∷ []
-  pub deep-at-513 : run (circle 5 0 ∷ []) (ask-circle 5 0) (to-next 513 ∷ to-hold ∷ []) ≡ says (Stopped Deep) 512 ∷ held (Err NoAnswer) ∷ []
-  pub cells-after-32 : run (circle 6 64 ∷ []) (ask-circle 6 0) (to-next 1000 ∷ []) ≡ says (Stopped Cells) 32 ∷ []
-  pub cells-after-31 : run (circle 6 64 ∷ []) (ask-circle 6 1) (to-next 1000 ∷ []) ≡ says (Stopped Cells) 31 ∷ []
+  pub by-first-appearance :
+      run (boxed ∷ []) boxed-query (to-next 1000 ∷ to-answer (replicate 12 0) ∷ to-slip (replicate 23 0) ∷ [])
+      ≡ says Answer 1
+      ∷ wrote (Ok 12) (0x20 ∷ 0x02 ∷ 0x03 ∷ 0x01 ∷ 0x00 ∷ 0x01 ∷ 0x04 ∷ 0x00 ∷ 0x00 ∷ 0x04 ∷ 0x00 ∷ 0x01 ∷ [])
+      ∷ wrote (Ok 23)
+      (0x20 ∷ 0x02 ∷ 0x03 ∷ 0x01 ∷ 0x00 ∷ 0x01 ∷ 0x04 ∷ 0x00 ∷ 0x00 ∷ 0x04 ∷ 0x00 ∷ 0x01
+      ∷ 0x21 ∷ 0x00 ∷ 0x00 ∷ 0x02 ∷ 0x04 ∷ 0x00 ∷ 0x00 ∷ 0x04 ∷ 0x00 ∷ 0x01 ∷ 0x2F ∷ [])
+      ∷ []
   pub unknowns-over-the-slip :
       run (same-again ∷ twins) same-query (to-next 1000 ∷ to-slip (replicate 42 0) ∷ [])
       ≡ says Answer 3
@@ -126,6 +143,31 @@ pub record Worked : Type 0 where
       ∷ 0x21 ∷ 0x00 ∷ 0x00 ∷ 0x02 ∷ 0x03 ∷ 0x04 ∷ 0x00 ∷ 0x00 ∷ 0x01 ∷ 0x00 ∷ 0x09 ∷ 0x03 ∷ 0x04 ∷ 0x00 ∷ 0x00 ∷ 0x01 ∷ 0x00 ∷ 0x09
       ∷ 0x21 ∷ 0x00 ∷ 0x01 ∷ 0x01 ∷ 0x03 ∷ 0x04 ∷ 0x00 ∷ 0x00 ∷ 0x01 ∷ 0x00 ∷ 0x09 ∷ 0x2F ∷ [])
       ∷ []
+  pub no-goal :
+      run [] no-goals (to-next 0 ∷ to-answer (replicate 5 0) ∷ to-next 0 ∷ [])
+      ≡ says Answer 0 ∷ wrote (Ok 5) (0x20 ∷ 0x01 ∷ 0x04 ∷ 0x00 ∷ 0x00 ∷ []) ∷ says NoMore 0 ∷ []
+  pub inside-itself-fails : run twins inside-itself (to-next 1000 ∷ []) ≡ says NoMore 1 ∷ []
+
+-- the limits of the search
+pub record Limited : Type 0 where
+  pub spent-at-512 : run (circle 5 0 ∷ []) (ask-circle 5 0) (to-next 512 ∷ []) ≡ says Spent 512 ∷ []
+  pub deep-at-513 : run (circle 5 0 ∷ []) (ask-circle 5 0) (to-next 513 ∷ to-hold ∷ []) ≡ says (Stopped Deep) 512 ∷ held (Err NoAnswer) ∷ []
+  pub cells-after-32 : run (circle 6 64 ∷ []) (ask-circle 6 0) (to-next 1000 ∷ []) ≡ says (Stopped Cells) 32 ∷ []
+  pub cells-after-31 : run (circle 6 64 ∷ []) (ask-circle 6 1) (to-next 1000 ∷ []) ≡ says (Stopped Cells) 31 ∷ []
+
+-- what the checker says of slips
+pub record Checked : Type 0 where
+  pub passes : check chain (query-bytes from-5) slip-to-6 ≡ Ok tt
+  pub second-passes : check chain (query-bytes from-5) slip-to-7 ≡ Ok tt
+  pub two-goals-pass : check chain (query-bytes before-7) slip-before-7 ≡ Ok tt
+  pub any-unknowns : check (boxed ∷ []) (query-bytes boxed-query)
+      (0x20 ∷ 0x02 ∷ 0x03 ∷ 0x01 ∷ 0x00 ∷ 0x01 ∷ 0x04 ∷ 0xFF ∷ 0xFF ∷ 0x04 ∷ 0x00 ∷ 0x05 ∷ 0x21 ∷ 0x00 ∷ 0x00 ∷ 0x02 ∷ 0x04 ∷ 0xFF ∷ 0xFF ∷ 0x04 ∷ 0x00 ∷ 0x05 ∷ 0x2F ∷ []) ≡ Ok tt
+  pub cut : Refused chain (query-bytes from-5) (take 19 slip-to-6) 23 19 4 (Some 2)
+  pub other-rule : Refused chain (query-bytes from-5) (with-second (0x21 ∷ 0x00 ∷ 0x01 ∷ 0x00 ∷ 0x2F ∷ [])) 22 15 4 (Some 1)
+  pub goals-in-order :
+      Refused chain (query-bytes before-7) (take 15 slip-to-6 ++ (0x21 ∷ 0x00 ∷ 0x01 ∷ 0x00 ∷ 0x21 ∷ 0x00 ∷ 0x00 ∷ 0x00 ∷ 0x2F ∷ [])) 22 15 4 (Some 1)
+  pub other-unknown : Refused (boxed ∷ []) (query-bytes boxed-query)
+      (0x20 ∷ 0x02 ∷ 0x03 ∷ 0x01 ∷ 0x00 ∷ 0x01 ∷ 0x04 ∷ 0x00 ∷ 0x04 ∷ 0x04 ∷ 0x00 ∷ 0x05 ∷ 0x21 ∷ 0x00 ∷ 0x00 ∷ 0x02 ∷ 0x04 ∷ 0x00 ∷ 0x05 ∷ 0x04 ∷ 0x00 ∷ 0x05 ∷ 0x2F ∷ []) 22 12 4 (Some 0)
   pub query-first : Refused chain [] [] 2 0 3 None
   pub no-slip : Refused chain (query-bytes from-5) [] 18 0 4 (Some 0)
   pub opening-alone : Refused chain (query-bytes from-5) (0x20 ∷ []) 18 0 4 (Some 0)
@@ -140,12 +182,28 @@ pub record Worked : Type 0 where
   pub other-variables : Refused chain (query-bytes from-5) (with-second (0x21 ∷ 0x00 ∷ 0x00 ∷ 0x01 ∷ 0x05 ∷ [])) 21 15 4 (Some 1)
   pub term-missing-in-step : Refused chain (query-bytes from-5) (with-second (0x21 ∷ 0x00 ∷ 0x02 ∷ 0x02 ∷ [])) 8 19 2 (Some 1)
   pub bytes-after-end : Refused chain (query-bytes from-5) (slip-to-6 ++ (0x2F ∷ [])) 23 19 4 (Some 2)
+  pub last-number : (rs : List Rule) (v : ℕ) → has-rule rs 65535 v ≡ false
+
+-- slips of as many steps as are allowed, and of more
+pub record Long : Type 0 where
   pub last-step-allowed : check (circle 5 0 ∷ fact (pair (atom 5) (atom 0)) ∷ []) circle-query ((0x20 ∷ 0x00 ∷ rounds 511) ++ (0x21 ∷ 0x00 ∷ 0x01 ∷ 0x00 ∷ 0x2F ∷ [])) ≡ Ok tt
   pub one-step-more : Refused (circle 5 0 ∷ []) circle-query (0x20 ∷ 0x00 ∷ rounds 513) 20 2050 4 (Some 512)
   pub steps-before-rule : Refused (circle 5 0 ∷ []) circle-query ((0x20 ∷ 0x00 ∷ rounds 512) ++ (0x21 ∷ 0x00 ∷ 0x01 ∷ 0x00 ∷ [])) 20 2050 4 (Some 512)
-  pub last-number : (rs : List Rule) (v : ℕ) → has-rule rs 65535 v ≡ false
+
+-- what opening says
+pub record Opening-told : Type 0 where
+  pub opens : opening (map rule-bytes chain) (query-bytes from-5) ≡ Ok (record { rules = chain; query = from-5 })
   pub no-query : Unopened [] [] 2 (Some 0) (Some 3)
-  pub rules-counted : Unopened (replicate 1025 []) (query-bytes no-goals) 13 None None
   pub query-before-rules : Unopened (replicate 1025 []) [] 2 (Some 0) (Some 3)
+  pub rules-counted : Unopened (replicate 1025 []) (query-bytes no-goals) 13 None None
+  pub rules-before-bytes : Unopened (replicate 1025 (replicate 17 0)) (query-bytes no-goals) 13 None None
   pub most-bytes-fit : opening (replicate 1 (replicate 16379 0)) (query-bytes no-goals) ≡ Ok (record { rules = record { variables = 0; head = atom 0; goals = [] } ∷ []; query = no-goals })
   pub bytes-counted : Unopened (replicate 1 (replicate 16380 0)) (query-bytes no-goals) 14 None None
+
+-- all of it
+pub record Worked : Type 0 where
+  pub written : Written
+  pub limited : Limited
+  pub checked : Checked
+  pub long : Long
+  pub opening-told : Opening-told

@@ -37,6 +37,16 @@ pub record Opens (texts : List (List ℕ)) (bs : List ℕ) (o : Opened) : Type 0
   pub bytes : All-bytes bs
   pub opens : opening texts bs ≡ Ok o
 
+-- no rewind is among the calls
+abbrev pub No-rewind : List Request → Type 0
+No-rewind [] = Unit {0}
+No-rewind (to-next a ∷ calls) = No-rewind calls
+No-rewind (to-rewind ∷ calls) = ⊥
+No-rewind (to-tally ∷ calls) = No-rewind calls
+No-rewind (to-hold ∷ calls) = No-rewind calls
+No-rewind (to-answer buffer ∷ calls) = No-rewind calls
+No-rewind (to-slip buffer ∷ calls) = No-rewind calls
+
 module _ (o : Opened) where
   -- right after these calls, the call r returns x
   abbrev pub Returns : List Request → Request → Reply → Type 0
@@ -59,16 +69,6 @@ module _ (o : Opened) where
     pub slips : Writes calls to-slip (slip-bytes s)
     pub answer-back : answer-in (answer-bytes s) ≡ Ok (s .terms)
     pub slip-back : slip-in (slip-bytes s) ≡ Ok s
-
-  -- no rewind is among the calls
-  abbrev pub No-rewind : List Request → Type 0
-  No-rewind [] = Unit {0}
-  No-rewind (to-next a ∷ calls) = No-rewind calls
-  No-rewind (to-rewind ∷ calls) = ⊥
-  No-rewind (to-tally ∷ calls) = No-rewind calls
-  No-rewind (to-hold ∷ calls) = No-rewind calls
-  No-rewind (to-answer buffer ∷ calls) = No-rewind calls
-  No-rewind (to-slip buffer ∷ calls) = No-rewind calls
 
   -- an answer given in these calls, since opening or the last rewind among them: the calls up to it, and its slip
   pub record Given (calls : List Request) : Type 0 where
@@ -107,7 +107,7 @@ None-means-none =
 abbrev pub In-order : Type 0
 In-order =
     (texts : List (List ℕ)) (bs : List ℕ) (o : Opened) → Opens texts bs o
-    → (calls between : List Request) (a b : ℕ) → No-rewind o between
+    → (calls between : List Request) (a b : ℕ) → No-rewind between
     → let first : List Request = calls ++ (to-next a ∷ []) in
     Says o calls a Answer → Says o (first ++ between) b Answer
     → (s t : Slip) × Stands o first s × Stands o ((first ++ between) ++ (to-next b ∷ [])) t × Later (numbers (s .steps)) (numbers (t .steps))
