@@ -1,20 +1,18 @@
 -- Every atom of a search has a number of two bytes where rules and query have only such. Assumes nothing.
-use mathlib.Core.Path.{_≡_}
 use mathlib.Core.List.{List, [], _∷_, _++_, map}
-use mathlib.Core.Option.{some}
 use Prim.Native.Nat.{ℕ, zero, suc, _≤_, _<_}
 use native.Mathlib.Omega.{arith}
 use lib.ListN.{length}
-use Rattle.terms.specs.Terms.{Term, var, atom, pair, Rule, Query}
+use Rattle.terms.specs.Terms.{Term, var, atom, pair, Rule}
 use Rattle.terms.specs.Bytes.{Fits, All-fit}
 use Rattle.unification.specs.Variables.{shifted}
-use Rattle.unification.specs.Substitutions.{Substitution, apply}
+use Rattle.unification.specs.Substitutions.{apply}
 use Rattle.unification.proofs.Within.{Keeps, unify-keeps}
 use Rattle.resolution.specs.Rules.{rule}
 use Rattle.resolution.specs.Cells.{fresh}
 use Rattle.resolution.specs.Lines.{Step}
 use Rattle.resolution.proofs.Sessions.{Stays}
-use Rattle.slips.specs.Slips.{position, renumbered}
+use Rattle.slips.specs.Slips.{renumbered}
 use Rattle.slips.proofs.Unknowns.{Known, All-known, position-below}
 
 -- each atom of the term has a number of two bytes
@@ -66,10 +64,11 @@ abbrev pub Small-place : List Term → List Term → List Step → Type 0
 Small-place goals cells fs = All-small goals × All-small cells
 
 pub small-stays : (rs : List Rule) → Small-rules rs → Stays rs Small-place
-small-stays rs small g rest due cells fs σ l s e h =
-    (small-map (apply σ) keeps (map (shifted n) (rule rs due .goals) ++ rest)
-    (small-append (map (shifted n) (rule rs due .goals)) rest (small-map (shifted n) (small-shifted n) (rule rs due .goals) (r .1)) (h .0 .1)),
-    small-map (apply σ) keeps (cells ++ fresh n (rule rs due .variables)) (small-append cells (fresh n (rule rs due .variables)) (h .1) (small-fresh n (rule rs due .variables))))
+small-stays rs small g rest due cells fs σ l s e h = (
+  small-map (apply σ) keeps (map (shifted n) (rule rs due .goals) ++ rest)
+      (small-append (map (shifted n) (rule rs due .goals)) rest (small-map (shifted n) (small-shifted n) (rule rs due .goals) (r .1)) (h .0 .1)),
+  small-map (apply σ) keeps (cells ++ fresh n (rule rs due .variables)) (small-append cells (fresh n (rule rs due .variables)) (h .1) (small-fresh n (rule rs due .variables))),
+)
   where
     n : ℕ
     n = length cells

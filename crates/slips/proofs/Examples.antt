@@ -70,8 +70,10 @@ unfolding unify lines
 long =
     record {
       last-step-allowed = refl;
-      one-step-more = (_, refl, refl, refl, refl, refl);
-      steps-before-rule = (_, refl, refl, refl, refl, refl);
+      one-step-more = refl;
+      steps-before-rule = refl;
+      operands-before-steps = refl;
+      end-after-last = refl;
     }
 
 opening-told : Opening-told

@@ -1,13 +1,11 @@
 -- The answers that a list of calls gave: they cover what follows, and come in order. Assumes nothing.
-use mathlib.Core.Path.{_≡_, refl, sym, _∙_, ap, ap₂, subst}
+use mathlib.Core.Path.{_≡_, refl, sym, _∙_, ap, subst}
 use mathlib.Core.List.{List, [], _∷_, _++_, map, append-assoc, append-nil}
-use mathlib.Core.Logic.{_⊎_, inl, inr}
+use mathlib.Core.Logic.{inl, inr}
 use Prim.Native.Nat.{ℕ}
-use native.Mathlib.Omega.{arith}
-use lib.ListN.{length}
 use Rattle.std.specs.declared.result.Result.{Result}
 use Rattle.std.specs.declared.result.Result.the-variants.{Ok, Err}
-use Rattle.terms.specs.Terms.{Term, Rule, Query}
+use Rattle.terms.specs.Terms.{Term, Rule}
 use Rattle.unification.specs.Ground.{Replacement}
 use Rattle.resolution.specs.declared.Word.{Word}
 use Rattle.resolution.specs.declared.Word.the-variants.{Answer, Spent, Stopped, NoMore}
@@ -15,18 +13,18 @@ use Rattle.resolution.specs.declared.Outcome.{Outcome}
 use Rattle.resolution.specs.declared.Refusal.{Refusal}
 use Rattle.resolution.specs.Follows.{Covers}
 use Rattle.resolution.specs.Lines.{Step, Place, rules-taken}
-use Rattle.resolution.specs.Search.{standing, Search, Called, next}
+use Rattle.resolution.specs.Search.{standing, Called, next}
 use Rattle.resolution.specs.Calls.{Session, given-by, given-with, after-call, after-calls}
 use Rattle.resolution.specs.Laws.{Each, Some, Later, Ordered}
 use Rattle.resolution.specs.Laws
 use Rattle.resolution.proofs.Cells.{map-append}
 use Rattle.resolution.proofs.Completeness
 use Rattle.resolution.proofs.Order
-use Rattle.slips.specs.Slips.{Slip-step, Slip, steps-of, slip-of, numbers, answer-bytes}
+use Rattle.slips.specs.Slips.{Slip-step, steps-of, slip-of, numbers, answer-bytes}
 use Rattle.slips.specs.Opening.{Opened}
-use Rattle.slips.specs.Runs.{Request, to-next, to-rewind, to-tally, to-hold, to-answer, to-slip, Reply, told}
+use Rattle.slips.specs.Runs.{Request, to-next, to-rewind, to-tally, to-hold, to-answer, to-slip, told}
 use Rattle.slips.specs.Checker.{Claims}
-use Rattle.slips.specs.Laws.{Opens, Returns, Says, Stands, No-rewind, Given, None-means-none, In-order}
+use Rattle.slips.specs.Laws.{Opens, Says, No-rewind, Given, None-means-none, In-order}
 use Rattle.slips.proofs.Own.{Ready}
 use Rattle.slips.proofs.Runs.{move, reached, reached-append, answer-stands, returns-as, as-returns}
 use Rattle.slips.proofs.Opening.{well-declared, ready}
@@ -76,43 +74,50 @@ module _ (texts : List (List ℕ)) (bs : List ℕ) (o : Opened) (h : Opens texts
   Gave calls p = (g : Given o calls) × (g .slip ≡ slip-of (o .rules) (o .query) p) × Ready (o .rules) (o .query) p
 
   one-later : (calls : List Request) (r : Request) → No-rewind (r ∷ []) → (p : Place) → Gave calls p → Gave (calls ++ (r ∷ [])) p
-  one-later calls r n p (g, s, k) =
-      (record {
-        earlier = g .earlier;
-        allowance = g .allowance;
-        later = g .later ++ (r ∷ []);
-        split = ap (λ l. l ++ (r ∷ [])) (g .split) ∙ append-assoc (g .earlier) (to-next (g .allowance) ∷ g .later) (r ∷ []);
-        since = no-rewind-append (g .later) (r ∷ []) (g .since) n;
-        says = g .says;
-        slip = g .slip;
-        stands = g .stands;
-      }, s, k)
+  one-later calls r n p (g, s, k) = (
+    record {
+      earlier = g .earlier;
+      allowance = g .allowance;
+      later = g .later ++ (r ∷ []);
+      split = ap (λ l. l ++ (r ∷ [])) (g .split) ∙ append-assoc (g .earlier) (to-next (g .allowance) ∷ g .later) (r ∷ []);
+      since = no-rewind-append (g .later) (r ∷ []) (g .since) n;
+      says = g .says;
+      slip = g .slip;
+      stands = g .stands;
+    },
+    s,
+    k,
+  )
 
   each-later : (calls : List Request) (r : Request) → No-rewind (r ∷ []) → (ps : List Place) → Each (Gave calls) ps → Each (Gave (calls ++ (r ∷ []))) ps
   each-later calls r n [] g = tt
   each-later calls r n (p ∷ ps) g = (one-later calls r n p (g .0), each-later calls r n ps (g .1))
 
   new-answer : (calls : List Request) (a : ℕ) → Says o calls a Answer → Gave (calls ++ (to-next a ∷ [])) (here texts bs o h (calls ++ (to-next a ∷ [])))
-  new-answer calls a k =
-      (record {
-        earlier = calls;
-        allowance = a;
-        later = [];
-        split = refl;
-        since = tt;
-        says = k;
-        slip = slip-here texts bs o h (calls ++ (to-next a ∷ []));
-        stands = stands texts bs o h (calls ++ (to-next a ∷ [])) (standing-after o calls a k);
-      }, refl, ready texts bs o h (calls ++ (to-next a ∷ [])))
+  new-answer calls a k = (
+    record {
+      earlier = calls;
+      allowance = a;
+      later = [];
+      split = refl;
+      since = tt;
+      says = k;
+      slip = slip-here texts bs o h (calls ++ (to-next a ∷ []));
+      stands = stands texts bs o h (calls ++ (to-next a ∷ [])) (standing-after o calls a k);
+    },
+    refl,
+    ready texts bs o h (calls ++ (to-next a ∷ [])),
+  )
 
   -- by what next said
   word-given : (calls : List Request) (a : ℕ) → Each (Gave calls) (reached (o .rules) (o .query) calls .given)
       → (w : Word) (n : ℕ) → reached-next o calls a .result ≡ Ok (record { word = w; tries = n })
       → Each (Gave (calls ++ (to-next a ∷ []))) (given-by w (reached-next o calls a .search .place) (reached (o .rules) (o .query) calls .given))
-  word-given calls a g Answer n e =
-      (subst (Gave (calls ++ (to-next a ∷ []))) (ap (λ (z : Session). z .search .place) (reached-more o calls (to-next a)))
-      (new-answer calls a (record { tries = n; returns = as-returns o calls (to-next a) (told (Ok (record { word = Answer; tries = n }))) (ap told e) })),
-      each-later calls (to-next a) tt (reached (o .rules) (o .query) calls .given) g)
+  word-given calls a g Answer n e = (
+    subst (Gave (calls ++ (to-next a ∷ []))) (ap (λ (z : Session). z .search .place) (reached-more o calls (to-next a)))
+        (new-answer calls a (record { tries = n; returns = as-returns o calls (to-next a) (told (Ok (record { word = Answer; tries = n }))) (ap told e) })),
+    each-later calls (to-next a) tt (reached (o .rules) (o .query) calls .given) g,
+  )
   word-given calls a g Spent n e = each-later calls (to-next a) tt (reached (o .rules) (o .query) calls .given) g
   word-given calls a g (Stopped why) n e = each-later calls (to-next a) tt (reached (o .rules) (o .query) calls .given) g
   word-given calls a g NoMore n e = each-later calls (to-next a) tt (reached (o .rules) (o .query) calls .given) g
@@ -204,14 +209,15 @@ stays-given o (to-answer buffer ∷ calls) n z = stays-given o calls n z
 stays-given o (to-slip buffer ∷ calls) n z = stays-given o calls n z
 
 pub in-order : In-order
-in-order texts bs o h calls between a b n k l =
-    (slip-here texts bs o h first,
-    slip-here texts bs o h second,
-    stands texts bs o h first (standing-after o calls a k),
-    stands texts bs o h second (standing-after o (first ++ between) b l),
-    subst (Later (numbers (slip-here texts bs o h first .steps))) (sym (numbers-taken (o .rules) _ (here texts bs o h second .branch)))
-    (subst (λ ns. Later ns (rules-taken (here texts bs o h second .branch))) (sym (numbers-taken (o .rules) _ (here texts bs o h first .branch)))
-    (later-than (here texts bs o h second) (here texts bs o h first) (kept .0) older (subst Ordered all-given (Order.in-order (o .rules) (o .query) (map move second))))))
+in-order texts bs o h calls between a b n k l = (
+  slip-here texts bs o h first,
+  slip-here texts bs o h second,
+  stands texts bs o h first (standing-after o calls a k),
+  stands texts bs o h second (standing-after o (first ++ between) b l),
+  subst (Later (numbers (slip-here texts bs o h first .steps))) (sym (numbers-taken (o .rules) _ (here texts bs o h second .branch)))
+      (subst (λ ns. Later ns (rules-taken (here texts bs o h second .branch))) (sym (numbers-taken (o .rules) _ (here texts bs o h first .branch)))
+      (later-than (here texts bs o h second) (here texts bs o h first) (kept .0) older (subst Ordered all-given (Order.in-order (o .rules) (o .query) (map move second))))),
+)
   where
     first : List Request
     first = calls ++ (to-next a ∷ [])

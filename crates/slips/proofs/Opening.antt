@@ -1,24 +1,20 @@
 -- What is known of the rules and the query that a search was opened with. Assumes nothing.
-use mathlib.Core.Path.{_≡_, refl, sym, _∙_, ap, subst}
+use mathlib.Core.Path.{_≡_, sym, _∙_, ap, subst}
 use mathlib.Core.List.{List, [], _∷_, map}
 use Prim.Native.Nat.{ℕ, _+_, _≤_}
 use native.Mathlib.Omega.{arith}
 use lib.Dec.{leb}
 use lib.ListN.{length, length-map}
 use Rattle.std.proofs.shelf.Tests.{leb-true}
-use Rattle.std.specs.declared.result.Result.{Result}
-use Rattle.std.specs.declared.result.Result.the-variants.{Ok, Err}
-use Rattle.terms.specs.Terms.{Term, Rule, Query}
+use Rattle.std.specs.declared.result.Result.the-variants.{Ok}
+use Rattle.terms.specs.Terms.{Rule, Query}
 use Rattle.grammar.specs.Singles.{rule, query}
 use Rattle.grammar.specs.Items.{most-bytes, most-rules}
-use Rattle.grammar.specs.Encodings.{All-bytes, Fit-rule, Fit-query}
+use Rattle.grammar.specs.Encodings.{Fit-rule, Fit-query}
 use Rattle.grammar.proofs.Framed.{ask-yes, go-yes}
 use Rattle.grammar.proofs.Alone.{rules-inverse, queries-inverse}
-use Rattle.unification.specs.Variables.{All-within}
-use Rattle.resolution.specs.Rules.{Closed, All-closed, Well-declared}
-use Rattle.resolution.specs.Cells.{fresh}
+use Rattle.resolution.specs.Rules.{All-closed, Well-declared}
 use Rattle.resolution.specs.Limits.{cell-limit, step-limit}
-use Rattle.resolution.specs.Calls.{session}
 use Rattle.resolution.proofs.Limits.{within-limits}
 use Rattle.resolution.proofs.Sessions.{all-kept}
 use Rattle.resolution.proofs.Steps.{Fitting, fitting-stays, fitting-opening}
@@ -28,7 +24,7 @@ use Rattle.slips.specs.Checker.{no-number}
 use Rattle.slips.specs.Runs.{Request}
 use Rattle.slips.specs.Laws.{Opens}
 use Rattle.slips.proofs.Passing.{fits-within, all-fits-within}
-use Rattle.slips.proofs.Atoms.{Small, All-small, fits-small, all-fits-small, small-fresh, Small-rules, Small-place, small-stays}
+use Rattle.slips.proofs.Atoms.{fits-small, all-fits-small, small-fresh, Small-rules, Small-place, small-stays}
 use Rattle.slips.proofs.Own.{Ready}
 use Rattle.slips.proofs.Runs.{move, reached}
 

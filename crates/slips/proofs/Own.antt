@@ -1,32 +1,29 @@
 -- The slip of a place from which no goal remains fits, and passes the checker. Assumes nothing.
 use mathlib.Core.Path.{_≡_, refl, sym, _∙_, ap, ap₂, subst}
-use mathlib.Core.Bool.{Bool, true, false, _&&_}
+use mathlib.Core.Bool.{true}
 use mathlib.Core.List.{List, [], _∷_, _++_, map, append-assoc, append-nil}
-use Prim.Native.Nat.{ℕ, zero, suc, _+_, _-_, _≤_, _<_}
+use Prim.Native.Nat.{ℕ, zero, suc, _+_, _-_, _≤_}
 use native.Mathlib.Nat.{add-zero}
 use native.Mathlib.Omega.{arith}
-use lib.Dec.{eqb}
 use lib.ListN.{length, take, drop, length-append, length-map, length-drop}
 use lib.Seq.{getD-take, getD-drop}
 use Rattle.std.proofs.shelf.Lists.{length-take-le}
 use Rattle.std.proofs.shelf.Tests.{eq-eqb}
-use Rattle.std.specs.declared.result.Result.{Result}
-use Rattle.std.specs.declared.result.Result.the-variants.{Ok, Err}
+use Rattle.std.specs.declared.result.Result.the-variants.{Ok}
 use Rattle.terms.specs.declared.Form.the-variants.{Slips}
 use Rattle.terms.specs.Terms.{Term, var, atom, pair, Rule, Query}
 use Rattle.terms.specs.Bytes.{encodings, All-fit}
 use Rattle.grammar.specs.Singles.{query}
 use Rattle.unification.specs.Variables.{Within, All-within, shifted}
-use Rattle.resolution.specs.Rules.{rule, Closed, All-closed}
+use Rattle.resolution.specs.Rules.{rule, All-closed}
 use Rattle.resolution.specs.Cells.{cell, present}
 use Rattle.resolution.specs.Limits.{step-limit, cell-limit}
 use Rattle.resolution.specs.Lines.{Step, Place}
 use Rattle.resolution.specs.Laws.{own-head, own-goals, Resolved}
 use Rattle.resolution.proofs.Cells.{map-same, map-map, map-append}
 use Rattle.resolution.proofs.Declared.{rule-closed, Inside, Tidy}
-use Rattle.slips.specs.declared.CheckFault.{CheckFault}
-use Rattle.slips.specs.Slips.{end-byte, all-appeared, renumbered, numbered, Slip-step, Slip, steps-of, slip-of, step-bytes, steps-bytes, slip-bytes}
-use Rattle.slips.specs.Checker.{unknowns, no-number, terms-at, opens, is-only, steps, check}
+use Rattle.slips.specs.Slips.{end-byte, all-appeared, renumbered, numbered, Slip-step, steps-of, slip-of, step-bytes, steps-bytes, slip-bytes}
+use Rattle.slips.specs.Checker.{unknowns, no-number, terms-at, opens, steps, check}
 use Rattle.slips.proofs.Unknowns.{all-appeared-known, few-unknowns}
 use Rattle.slips.proofs.Atoms.{All-small, all-renumbered-fit}
 use Rattle.slips.proofs.Written.{ahead, terms-written, step-passes, Fit-steps, Fit-slip}
@@ -113,12 +110,12 @@ module _ (rs : List Rule) (q : Query) (closed : All-closed rs) (few : length rs 
         ap (λ k. steps rs slip k 0 p start) (let k : left + suc (length fs) ≡ suc left + length fs = omega arith in k)
         ∙ branch-passes fs (own-head rs cells f ∷ rest) (i .2) r slip (step-bytes s ++ more) p (suc left) (omega (arith, l)) before
         ∙ step-passes rs slip (length fs) here (renumbered xs (own-head rs cells f)) (λ own q. steps rs slip left (suc (length fs)) q (own ++ map (renumbered xs) rest)) s more
-            (ahead p slip (steps-bytes older) (step-bytes s ++ more) before) (omega (arith, l)) (i .0) (omega (arith, i .0, few)) (made-count f (i .1)) (made-fit f)
-            (present-part xs cells (length (f .cells)) (rule rs (f .rule) .variables) (rule rs (f .rule) .head) (rule-closed rs (f .rule) closed .0))
+        (ahead p slip (steps-bytes older) (step-bytes s ++ more) before) (omega (arith, l)) (i .0) (omega (arith, i .0, few)) (made-count f (i .1)) (made-fit f)
+        (present-part xs cells (length (f .cells)) (rule rs (f .rule) .variables) (rule rs (f .rule) .head) (rule-closed rs (f .rule) closed .0))
         ∙ ap (λ gs. steps rs slip left (suc (length fs)) (here + length (step-bytes s)) gs)
-            (ap (λ gs. gs ++ map (renumbered xs) rest) (own-made f) ∙ sym (map-append (renumbered xs) (own-goals rs cells f) rest) ∙ ap (map (renumbered xs)) (sym e))
+        (ap (λ gs. gs ++ map (renumbered xs) rest) (own-made f) ∙ sym (map-append (renumbered xs) (own-goals rs cells f) rest) ∙ ap (map (renumbered xs)) (sym e))
         ∙ ap (λ m. steps rs slip left (suc (length fs)) m (map (renumbered xs) goals))
-            (omega (arith, ap length bytes, length-append (steps-bytes older) (step-bytes s)))
+        (omega (arith, ap length bytes, length-append (steps-bytes older) (step-bytes s)))
       where
         s : Slip-step
         s = made f

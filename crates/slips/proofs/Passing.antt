@@ -1,10 +1,10 @@
 -- A slip that passes claims only replacements that follow. Assumes nothing.
 use mathlib.Core.Path.{_≡_, refl, sym, _∙_, ap, ap₂, subst}
-use mathlib.Core.Bool.{Bool, true, false, _&&_}
+use mathlib.Core.Bool.{true}
 use mathlib.Core.List.{List, [], _∷_, _++_, map}
 use Prim.Native.Nat.{ℕ, zero, suc, _+_, _<_}
 use native.Mathlib.Omega.{arith}
-use lib.Dec.{eqb, ltb}
+use lib.Dec.{ltb}
 use lib.ListN.{length, drop}
 use Rattle.std.proofs.shelf.Tests.{eqb-true, ltb-true, and-parts}
 use Rattle.std.specs.declared.result.Result.{Result}
@@ -21,7 +21,7 @@ use Rattle.unification.specs.Variables.{Within, All-within}
 use Rattle.unification.proofs.Ground.{all-replaced-append}
 use Rattle.resolution.specs.Rules.{rule}
 use Rattle.resolution.specs.Cells.{cell, present}
-use Rattle.resolution.specs.Follows.{Follows, by-rule, All-follow, no-goal, each-goal, Query-follows, Covers}
+use Rattle.resolution.specs.Follows.{by-rule, All-follow, no-goal, each-goal, Query-follows, Covers}
 use Rattle.resolution.specs.Limits.{step-limit}
 use Rattle.resolution.proofs.Follows.{left-follow, right-follow}
 use Rattle.resolution.proofs.Cells.{replaced-as, map-same, map-map}
@@ -29,7 +29,7 @@ use Rattle.slips.specs.declared.SlipFault.the-variants.{Reading, Opening, NoSt
 use Rattle.slips.specs.declared.CheckFault.{CheckFault}
 use Rattle.slips.specs.declared.CheckFault.the-variants.{InQuery, InSlip}
 use Rattle.slips.specs.Slips.{step-byte}
-use Rattle.slips.specs.Checker.{terms-at, begins, opens, step-operands, step-size, has-rule, same, step, steps, check, Claimed, Claims}
+use Rattle.slips.specs.Checker.{terms-at, begins, opens, step-operands, step-size, has-rule, same, step, steps, Claimed}
 use Rattle.slips.specs.Laws.{What-passes-follows}
 
 -- terms that are found the same are equal

@@ -2,7 +2,7 @@
 use mathlib.Core.Path.{_≡_, refl, sym, _∙_, ap, ap₂, subst}
 use mathlib.Core.Bool.{Bool, true, false, cond}
 use mathlib.Core.List.{List, [], _∷_, _++_, map, append-cancel-left}
-use Prim.Native.Nat.{ℕ, zero, suc, _+_, _-_, _≤_, _<_}
+use Prim.Native.Nat.{ℕ, _-_, _≤_}
 use native.Mathlib.Omega.{arith}
 use lib.Dec.{leb}
 use lib.ListN.{length, take, drop, length-append, length-drop}
@@ -10,24 +10,23 @@ use Rattle.std.proofs.shelf.Lists.{take-at, drop-at}
 use Rattle.std.proofs.shelf.Tests.{leb-true, le-leb}
 use Rattle.std.specs.declared.result.Result.{Result}
 use Rattle.std.specs.declared.result.Result.the-variants.{Ok, Err}
-use Rattle.terms.specs.Terms.{Term, Rule, Query}
-use Rattle.unification.proofs.Choice.{cond-by, cond-at}
+use Rattle.terms.specs.Terms.{Rule, Query}
+use Rattle.unification.proofs.Choice.{cond-by}
 use Rattle.resolution.specs.declared.Word.{Word}
 use Rattle.resolution.specs.declared.Word.the-variants.{Answer, Spent, Stopped, NoMore}
 use Rattle.resolution.specs.declared.Outcome.{Outcome}
-use Rattle.resolution.specs.declared.Refusal.{Refusal}
 use Rattle.resolution.specs.Limits.{allowance-limit}
 use Rattle.resolution.specs.Lines.{Step, Place, before, back, End, onward, lines}
 use Rattle.resolution.specs.Search.{Condition, running, standing, ended, stopped, Search, condition-after, Called, settled, repeated, continued, next}
-use Rattle.resolution.specs.Calls.{at-tally, Call, ask-next, ask-rewind, ask, Session, begun, called, after-call, after-calls, session}
+use Rattle.resolution.specs.Calls.{at-tally, Call, ask-next, ask-rewind, ask, Session, begun, after-call, after-calls, session}
 use Rattle.resolution.proofs.Cells.{map-append}
 use Rattle.resolution.proofs.Lines.{Final, lines-final}
 use Rattle.resolution.proofs.Sessions.{sessions-keep, next-by}
 use Rattle.slips.specs.declared.WriteRefusal.{WriteRefusal}
-use Rattle.slips.specs.declared.WriteRefusal.the-variants.{NoAnswer, NoRoom}
+use Rattle.slips.specs.declared.WriteRefusal.the-variants.{NoRoom}
 use Rattle.slips.specs.Slips.{slip-of, answer-bytes, slip-bytes}
 use Rattle.slips.specs.Opening.{Opened}
-use Rattle.slips.specs.Runs.{Request, to-next, to-rewind, to-tally, to-hold, to-answer, to-slip, Reply, told, rewound, tallied, held, wrote, hold, written, written-if, reply, after, replies, run}
+use Rattle.slips.specs.Runs.{Request, to-next, to-rewind, to-tally, to-hold, to-answer, to-slip, Reply, wrote, hold, written, written-if, reply, after, replies, run}
 use Rattle.slips.specs.Laws.{Returns, Only-looks, Looks-leave, Beyond-stays, Buffers-stay}
 
 -- what a request does to the search: those that only look do no more than tally
@@ -138,7 +137,7 @@ module _ (o : Opened) where
   pub returns-as : (calls : List Request) (r : Request) (x : Reply) → Returns o calls r x → reply (o .rules) (o .query) r (reached (o .rules) (o .query) calls .search) ≡ x
   returns-as calls r x e =
       let k = append-cancel-left (run (o .rules) (o .query) calls) (reply (o .rules) (o .query) r (reached (o .rules) (o .query) calls .search) ∷ []) (x ∷ [])
-                  (sym (returned (o .rules) (o .query) calls r) ∙ e) in
+      (sym (returned (o .rules) (o .query) calls r) ∙ e) in
       cc
 
   pub as-returns : (calls : List Request) (r : Request) (x : Reply) → reply (o .rules) (o .query) r (reached (o .rules) (o .query) calls .search) ≡ x → Returns o calls r x
@@ -208,9 +207,10 @@ looked rs q (to-slip buffer) l s = refl
 
 pub looks-leave : Looks-leave
 looks-leave o calls r more l =
-    let s : Search = reached (o .rules) (o .query) calls .search in
-    (reply (o .rules) (o .query) r s,
-    replies (o .rules) (o .query) more s,
-    run-append (o .rules) (o .query) calls (r ∷ more)
-    ∙ ap (λ t. run (o .rules) (o .query) calls ++ (reply (o .rules) (o .query) r s ∷ replies (o .rules) (o .query) more t)) (looked (o .rules) (o .query) r l s),
-    run-append (o .rules) (o .query) calls more)
+    let s : Search = reached (o .rules) (o .query) calls .search in (
+      reply (o .rules) (o .query) r s,
+      replies (o .rules) (o .query) more s,
+      run-append (o .rules) (o .query) calls (r ∷ more)
+          ∙ ap (λ t. run (o .rules) (o .query) calls ++ (reply (o .rules) (o .query) r s ∷ replies (o .rules) (o .query) more t)) (looked (o .rules) (o .query) r l s),
+      run-append (o .rules) (o .query) calls more,
+    )

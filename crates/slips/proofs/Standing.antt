@@ -1,25 +1,24 @@
 -- Where an answer stands, answer and slip write it, it reads back, and its slip passes. Assumes nothing.
-use mathlib.Core.Path.{_≡_, refl, sym, _∙_, ap, ap₂, subst}
-use mathlib.Core.List.{List, [], _∷_, _++_, map, append-nil}
+use mathlib.Core.Path.{_≡_, refl, sym, _∙_, ap, subst}
+use mathlib.Core.List.{List, [], _∷_, append-nil}
 use Prim.Native.Nat.{ℕ, zero, suc, _+_, _<_}
 use native.Mathlib.Omega.{arith}
-use lib.ListN.{length, take, drop, getD}
+use lib.ListN.{length, take, getD}
 use lib.Seq.{getD-take}
-use Rattle.std.specs.declared.result.Result.{Result}
-use Rattle.std.specs.declared.result.Result.the-variants.{Ok, Err}
+use Rattle.std.specs.declared.result.Result.the-variants.{Ok}
 use Rattle.terms.specs.declared.Form.the-variants.{Slips}
-use Rattle.terms.specs.Terms.{Term, atom, Rule, Query}
+use Rattle.terms.specs.Terms.{Term, atom}
 use Rattle.terms.specs.Bytes.{encodings}
 use Rattle.unification.specs.Ground.{Replacement, replaced}
 use Rattle.resolution.specs.Cells.{cell}
 use Rattle.resolution.specs.Follows.{Covers}
 use Rattle.resolution.specs.Lines.{Place}
-use Rattle.resolution.specs.Search.{Condition, running, standing, ended, stopped, Search}
-use Rattle.slips.specs.Slips.{all-appeared, renumbered, numbered, Slip, slip-of, answer-bytes, slip-bytes}
+use Rattle.resolution.specs.Search.{Condition, running, standing, ended, stopped}
+use Rattle.slips.specs.Slips.{all-appeared, numbered, Slip, slip-of, answer-bytes, slip-bytes}
 use Rattle.slips.specs.Opening.{Opened}
 use Rattle.slips.specs.Runs.{Request, to-hold, to-answer, to-slip, held, wrote, hold, written-if}
 use Rattle.slips.specs.Checker.{check, terms-at, Claimed, Claims}
-use Rattle.slips.specs.Laws.{Opens, Returns, Stands, Written-reads-back, Own-slips-pass}
+use Rattle.slips.specs.Laws.{Opens, Stands, Written-reads-back, Own-slips-pass}
 use Rattle.slips.proofs.Unknowns.{Known, All-known, all-appeared-known, replaced-renumbered}
 use Rattle.slips.proofs.Written.{Fit-slip, terms-written, answer-back, slip-back}
 use Rattle.slips.proofs.Own.{Ready, cell-renumbered, first-count, slip-fits, slip-passes}
@@ -63,7 +62,7 @@ pub own-slips-pass : Own-slips-pass
 own-slips-pass texts bs o h calls buffer now n e =
     ap (check (o .rules) bs) (front .1)
     ∙ slip-passes (o .rules) (o .query) (well-declared texts bs o h .0) (few texts bs o h) bs (query-read texts bs o h) (well-declared texts bs o h .1)
-        (here texts bs o h calls) (ready texts bs o h calls) (standing-done (o .rules) (o .query) calls (front .0))
+    (here texts bs o h calls) (ready texts bs o h calls) (standing-done (o .rules) (o .query) calls (front .0))
   where
     front : (reached (o .rules) (o .query) calls .search .condition ≡ standing) × (take n now ≡ slip-bytes (slip-here texts bs o h calls))
     front =

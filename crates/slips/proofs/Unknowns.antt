@@ -1,18 +1,17 @@
 -- Unknowns by first appearance: each is found again, and there are no more of them than variables. Assumes nothing.
 use mathlib.Core.Path.{_≡_, refl, sym, _∙_, ap, ap₂, subst}
 use mathlib.Core.Bool.{Bool, true, false, cond}
-use mathlib.Core.List.{List, [], _∷_, _++_, map}
-use Prim.Native.Nat.{ℕ, zero, suc, _+_, _≤_, _<_}
+use mathlib.Core.List.{List, [], _∷_, _++_}
+use Prim.Native.Nat.{ℕ, zero, suc, _≤_, _<_}
 use native.Mathlib.Omega.{arith}
 use lib.Dec.{eqb}
 use lib.ListN.{length, getD, length-append}
 use Rattle.std.proofs.shelf.Tests.{eqb-true, eqb-false, eq-eqb, ne-eqb}
 use Rattle.terms.specs.Terms.{Term, var, atom, pair}
-use Rattle.terms.specs.Bytes.{Fits, All-fit}
 use Rattle.unification.specs.Variables.{Within, All-within}
 use Rattle.unification.specs.Ground.{ground-pair, Replacement, replaced}
 use Rattle.unification.proofs.Choice.{cond-at}
-use Rattle.slips.specs.Slips.{among, position, appeared, all-appeared, renumbered, numbered}
+use Rattle.slips.specs.Slips.{among, position, appeared, all-appeared, renumbered}
 
 -- each variable of the term is among these
 abbrev pub Known : List ℕ → Term → Type 0

@@ -1,6 +1,6 @@
 -- What is written as an answer or a slip is read as it. Assumes nothing.
-use mathlib.Core.Path.{_≡_, refl, sym, _∙_, ap, ap₂, subst}
-use mathlib.Core.Bool.{Bool, true, false, cond, _&&_}
+use mathlib.Core.Path.{_≡_, refl, sym, _∙_, ap}
+use mathlib.Core.Bool.{true, false, _&&_}
 use mathlib.Core.List.{List, [], _∷_, _++_, map, append-assoc, append-nil}
 use Prim.Native.Nat.{ℕ, zero, suc, _+_, _*_, _/_, _%_, _≤_, _<_}
 use native.Mathlib.Omega.{arith}
@@ -9,7 +9,7 @@ use lib.ListN.{length, drop}
 use Rattle.std.proofs.shelf.Lists.{drop-drop, drop-at}
 use Rattle.std.proofs.shelf.Tests.{eq-eqb, lt-ltb, and-from}
 use Rattle.std.specs.declared.result.Result.{Result}
-use Rattle.std.specs.declared.result.Result.the-variants.{Ok, Err}
+use Rattle.std.specs.declared.result.Result.the-variants.{Ok}
 use Rattle.terms.specs.declared.Form.the-variants.{Slips}
 use Rattle.terms.specs.Terms.{Term, var, atom, pair, Rule}
 use Rattle.terms.specs.Bytes.{two, encodings, All-fit}
@@ -20,7 +20,7 @@ use Rattle.resolution.specs.Rules.{rule}
 use Rattle.resolution.specs.Cells.{present}
 use Rattle.resolution.specs.Limits.{step-limit}
 use Rattle.slips.specs.declared.CheckFault.{CheckFault}
-use Rattle.slips.specs.Slips.{answer-byte, step-byte, end-byte, Slip-step, Slip, answer-bytes, step-bytes, steps-bytes, slip-bytes}
+use Rattle.slips.specs.Slips.{step-byte, end-byte, Slip-step, Slip, answer-bytes, step-bytes, steps-bytes, slip-bytes}
 use Rattle.slips.specs.Checker.{unknowns, no-number, placed, terms-at, begins, is-only, step-operands, step-size, has-rule, same, step}
 use Rattle.slips.specs.Reading.{answer-in, steps-in, slip-in}
 

@@ -1,5 +1,5 @@
 -- The checker's questions, and what a slip claims. Assumes nothing.
-use mathlib.Core.Bool.{Bool, true, false, cond, _&&_}
+use mathlib.Core.Bool.{Bool, false, _&&_}
 use mathlib.Core.List.{List, [], _∷_, _++_, map}
 use Prim.Native.Nat.{ℕ, zero, suc, _+_, _*_}
 use lib.Dec.{eqb, ltb}
@@ -20,7 +20,6 @@ use Rattle.resolution.specs.Rules.{rule}
 use Rattle.resolution.specs.Cells.{present}
 use Rattle.resolution.specs.Follows.{Covers}
 use Rattle.resolution.specs.Limits.{step-limit}
-use Rattle.slips.specs.declared.SlipFault.{SlipFault}
 use Rattle.slips.specs.declared.SlipFault.the-variants.{Reading, Opening, NoStep, TooManySteps, NoRule, OtherGoal, NoEnd}
 use Rattle.slips.specs.declared.CheckFault.{CheckFault}
 use Rattle.slips.specs.declared.CheckFault.the-variants.{InQuery, InSlip}

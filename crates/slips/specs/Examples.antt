@@ -2,16 +2,14 @@
 use mathlib.Core.Path.{_≡_}
 use mathlib.Core.Bool.{false}
 use mathlib.Core.List.{List, [], _∷_, _++_, map}
-use Prim.Native.Nat.{ℕ, zero, suc}
+use Prim.Native.Nat.{ℕ}
 use lib.ListN.{take, replicate}
 use Rattle.std.specs.declared.option.Option.{Option}
 use Rattle.std.specs.declared.option.Option.the-variants.{Some, None}
-use Rattle.std.specs.declared.result.Result.{Result}
 use Rattle.std.specs.declared.result.Result.the-variants.{Ok, Err}
-use Rattle.terms.specs.Terms.{Term, var, atom, pair, Rule, Query}
-use Rattle.grammar.specs.declared.faults.CommandFault.the-variants.{Operands, NoTerm}
-use Rattle.grammar.specs.declared.faults.RuleFault.the-variants.{Command, TermMissing}
-use Rattle.grammar.specs.declared.faults.SingleFault.the-variants.{Start}
+use Rattle.terms.specs.Terms.{var, atom, pair, Rule, Query}
+use Rattle.grammar.specs.declared.faults.CommandFault.the-variants.{Operands}
+use Rattle.grammar.specs.declared.faults.RuleFault.the-variants.{Command}
 use Rattle.grammar.specs.Encodings.{rule-bytes, query-bytes}
 use Rattle.resolution.specs.declared.Stop.the-variants.{Deep, Cells}
 use Rattle.resolution.specs.declared.Word.{Word}
@@ -20,15 +18,13 @@ use Rattle.resolution.specs.declared.Refusal.the-variants.{Allowance}
 use Rattle.resolution.specs.Rules.{rule}
 use Rattle.resolution.specs.Examples.{list-of-3, fact, chain, from-5, before-7, twins, inside-itself, no-goals, circle, ask-circle}
 use Rattle.slips.specs.declared.OpeningFault.{OpeningFault}
-use Rattle.slips.specs.declared.OpeningFault.the-variants.{InQuery as Query-unfit, TooManyRules, TooManyBytes}
 use Rattle.slips.specs.declared.WriteRefusal.the-variants.{NoAnswer, NoRoom}
-use Rattle.slips.specs.declared.SlipFault.{SlipFault}
-use Rattle.slips.specs.declared.SlipFault.the-variants.{Reading, Opening, NoStep, TooManySteps, NoRule, OtherGoal, NoEnd}
+use Rattle.slips.specs.declared.SlipFault.the-variants.{Reading, TooManySteps}
 use Rattle.slips.specs.declared.CheckFault.{CheckFault}
-use Rattle.slips.specs.declared.CheckFault.the-variants.{InQuery, InSlip}
-use Rattle.slips.specs.Opening.{Opened, opening}
-use Rattle.slips.specs.Runs.{Request, to-next, to-rewind, to-tally, to-hold, to-answer, to-slip, Reply, told, rewound, tallied, held, wrote, run}
-use Rattle.slips.specs.Checker.{has-rule, check}
+use Rattle.slips.specs.declared.CheckFault.the-variants.{InSlip}
+use Rattle.slips.specs.Opening.{opening}
+use Rattle.slips.specs.Runs.{to-next, to-rewind, to-tally, to-hold, to-answer, to-slip, Reply, told, rewound, tallied, held, wrote, run}
+use Rattle.slips.specs.Checker.{has-rule, steps, check}
 use Rattle.slips.specs.Refusals.{check-number, check-place, check-layer, check-steps, opening-number, opening-place, opening-layer}
 
 -- next said a word after so many tries
@@ -83,14 +79,6 @@ slip-to-7 =
 
 abbrev pub slip-before-7 : List ℕ
 slip-before-7 = take 19 slip-to-6 ++ (0x21 ∷ 0x00 ∷ 0x01 ∷ 0x00 ∷ 0x2F ∷ [])
-
--- n steps of the rule 0, which declares no variable
-abbrev pub rounds : ℕ → List ℕ
-rounds zero = []
-rounds (suc n) = 0x21 ∷ 0x00 ∷ 0x00 ∷ 0x00 ∷ rounds n
-
-abbrev pub circle-query : List ℕ
-circle-query = query-bytes (ask-circle 5 0)
 
 -- answers and slips in the buffers of calls
 pub record Written : Type 0 where
@@ -184,11 +172,15 @@ pub record Checked : Type 0 where
   pub bytes-after-end : Refused chain (query-bytes from-5) (slip-to-6 ++ (0x2F ∷ [])) 23 19 4 (Some 2)
   pub last-number : (rs : List Rule) (v : ℕ) → has-rule rs 65535 v ≡ false
 
--- slips of as many steps as are allowed, and of more
+-- the last step that is allowed, and one more: the questions from the place 0 of a slip on, after so many steps
 pub record Long : Type 0 where
-  pub last-step-allowed : check (circle 5 0 ∷ fact (pair (atom 5) (atom 0)) ∷ []) circle-query ((0x20 ∷ 0x00 ∷ rounds 511) ++ (0x21 ∷ 0x00 ∷ 0x01 ∷ 0x00 ∷ 0x2F ∷ [])) ≡ Ok tt
-  pub one-step-more : Refused (circle 5 0 ∷ []) circle-query (0x20 ∷ 0x00 ∷ rounds 513) 20 2050 4 (Some 512)
-  pub steps-before-rule : Refused (circle 5 0 ∷ []) circle-query ((0x20 ∷ 0x00 ∷ rounds 512) ++ (0x21 ∷ 0x00 ∷ 0x01 ∷ 0x00 ∷ [])) 20 2050 4 (Some 512)
+  pub last-step-allowed : steps (fact (atom 5) ∷ []) (0x21 ∷ 0x00 ∷ 0x00 ∷ 0x00 ∷ 0x2F ∷ []) 1 511 0 (atom 5 ∷ []) ≡ Ok tt
+  pub one-step-more :
+      steps (fact (atom 5) ∷ []) (0x21 ∷ 0x00 ∷ 0x00 ∷ 0x00 ∷ 0x21 ∷ 0x00 ∷ 0x00 ∷ 0x00 ∷ 0x2F ∷ []) 1 511 0 (atom 5 ∷ atom 5 ∷ [])
+      ≡ Err (InSlip (TooManySteps 4) 512)
+  pub steps-before-rule : steps [] (0x21 ∷ 0x00 ∷ 0x00 ∷ 0x00 ∷ []) 0 512 0 (atom 5 ∷ []) ≡ Err (InSlip (TooManySteps 0) 512)
+  pub operands-before-steps : steps [] (0x21 ∷ 0x00 ∷ 0x00 ∷ []) 0 512 0 (atom 5 ∷ []) ≡ Err (InSlip (Reading (Command (Operands 0))) 512)
+  pub end-after-last : steps [] (0x2F ∷ []) 0 512 0 [] ≡ Ok tt
 
 -- what opening says
 pub record Opening-told : Type 0 where

@@ -5,7 +5,7 @@ use Prim.Native.Nat.{ℕ, _≤_}
 use lib.ListN.{length, take, drop}
 use Rattle.std.specs.declared.result.Result.{Result}
 use Rattle.std.specs.declared.result.Result.the-variants.{Ok, Err}
-use Rattle.terms.specs.Terms.{Term, Rule, Query}
+use Rattle.terms.specs.Terms.{Rule, Query}
 use Rattle.grammar.specs.Singles.{query}
 use Rattle.grammar.specs.Encodings.{All-bytes}
 use Rattle.unification.specs.Ground.{Replacement}
@@ -16,7 +16,7 @@ use Rattle.resolution.specs.Laws.{Later}
 use Rattle.slips.specs.declared.WriteRefusal.{WriteRefusal}
 use Rattle.slips.specs.Slips.{Slip, numbers, answer-bytes, slip-bytes}
 use Rattle.slips.specs.Opening.{All-rules, Opened, opening}
-use Rattle.slips.specs.Runs.{Request, to-next, to-rewind, to-tally, to-hold, to-answer, to-slip, Reply, told, rewound, tallied, held, wrote, run}
+use Rattle.slips.specs.Runs.{Request, to-next, to-rewind, to-tally, to-hold, to-answer, to-slip, Reply, told, held, wrote, run}
 use Rattle.slips.specs.Checker.{check, Claims}
 use Rattle.slips.specs.Reading.{answer-in, slip-in}
 
