@@ -26,36 +26,36 @@ use Rattle.slips.specs.Runs.{Request, to-next, to-rewind, to-tally, to-hold, t
 use Rattle.slips.specs.Checker.{Claims}
 use Rattle.slips.specs.Laws.{Opens, Says, No-rewind, Given, None-means-none, In-order}
 use Rattle.slips.proofs.Own.{Ready}
-use Rattle.slips.proofs.Runs.{move, reached, reached-append, answer-stands, returns-as, as-returns}
+use Rattle.slips.proofs.Runs.{move, met, reached-append, answer-stands, returns-as, as-returns}
 use Rattle.slips.proofs.Opening.{well-declared, ready}
 use Rattle.slips.proofs.Standing.{here, slip-here, stands, answer-claims}
 
 -- ── what next said ──
 
-said-as : (o : Opened) (calls : List Request) (a : ℕ) (w : Word) (k : Says o calls a w) → next (o .rules) a (reached (o .rules) (o .query) calls .search) .result ≡ Ok (record { word = w; tries = k .tries })
+said-as : (o : Opened) (calls : List Request) (a : ℕ) (w : Word) (k : Says o calls a w) → next (o .rules) a (met o calls .search) .result ≡ Ok (record { word = w; tries = k .tries })
 said-as o calls a w k = let e = returns-as o calls (to-next a) (told (Ok (record { word = w; tries = k .tries }))) (k .returns) in cc
 
 abbrev reached-next : (o : Opened) (calls : List Request) (a : ℕ) → Called
-reached-next o calls a = next (o .rules) a (reached (o .rules) (o .query) calls .search)
+reached-next o calls a = next (o .rules) a (met o calls .search)
 
 -- the session after one call more
 reached-more : (o : Opened) (calls : List Request) (r : Request)
-    → reached (o .rules) (o .query) (calls ++ (r ∷ [])) ≡ after-call (o .rules) (o .query) (move r) (reached (o .rules) (o .query) calls)
+    → met o (calls ++ (r ∷ [])) ≡ after-call (o .rules) (o .query) (move r) (met o calls)
 reached-more o calls r = reached-append (o .rules) (o .query) calls (r ∷ [])
 
 -- an answer that next gave stands, and is the newest
-standing-after : (o : Opened) (calls : List Request) (a : ℕ) → Says o calls a Answer → reached (o .rules) (o .query) (calls ++ (to-next a ∷ [])) .search .condition ≡ standing
+standing-after : (o : Opened) (calls : List Request) (a : ℕ) → Says o calls a Answer → met o (calls ++ (to-next a ∷ [])) .search .condition ≡ standing
 standing-after o calls a k =
     ap (λ (z : Session). z .search .condition) (reached-more o calls (to-next a))
-    ∙ answer-stands (o .rules) (o .query) a (reached (o .rules) (o .query) calls .search) (record { word = Answer; tries = k .tries }) (said-as o calls a Answer k) refl
+    ∙ answer-stands (o .rules) (o .query) a (met o calls .search) (record { word = Answer; tries = k .tries }) (said-as o calls a Answer k) refl
 
 newest-after : (o : Opened) (calls : List Request) (a : ℕ) → Says o calls a Answer
-    → reached (o .rules) (o .query) (calls ++ (to-next a ∷ [])) .given
-    ≡ reached (o .rules) (o .query) (calls ++ (to-next a ∷ [])) .search .place ∷ reached (o .rules) (o .query) calls .given
+    → met o (calls ++ (to-next a ∷ [])) .given
+    ≡ met o (calls ++ (to-next a ∷ [])) .search .place ∷ met o calls .given
 newest-after o calls a k =
     ap (λ (z : Session). z .given) (reached-more o calls (to-next a))
-    ∙ ap (λ r. given-with r (reached-next o calls a .search .place) (reached (o .rules) (o .query) calls .given)) (said-as o calls a Answer k)
-    ∙ ap (λ (z : Session). z .search .place ∷ reached (o .rules) (o .query) calls .given) (sym (reached-more o calls (to-next a)))
+    ∙ ap (λ r. given-with r (reached-next o calls a .search .place) (met o calls .given)) (said-as o calls a Answer k)
+    ∙ ap (λ (z : Session). z .search .place ∷ met o calls .given) (sym (reached-more o calls (to-next a)))
 
 -- ── answers stay given until a rewind ──
 
@@ -110,35 +110,35 @@ module _ (texts : List (List ℕ)) (bs : List ℕ) (o : Opened) (h : Opens texts
   )
 
   -- by what next said
-  word-given : (calls : List Request) (a : ℕ) → Each (Gave calls) (reached (o .rules) (o .query) calls .given)
+  word-given : (calls : List Request) (a : ℕ) → Each (Gave calls) (met o calls .given)
       → (w : Word) (n : ℕ) → reached-next o calls a .result ≡ Ok (record { word = w; tries = n })
-      → Each (Gave (calls ++ (to-next a ∷ []))) (given-by w (reached-next o calls a .search .place) (reached (o .rules) (o .query) calls .given))
+      → Each (Gave (calls ++ (to-next a ∷ []))) (given-by w (reached-next o calls a .search .place) (met o calls .given))
   word-given calls a g Answer n e = (
     subst (Gave (calls ++ (to-next a ∷ []))) (ap (λ (z : Session). z .search .place) (reached-more o calls (to-next a)))
         (new-answer calls a (record { tries = n; returns = as-returns o calls (to-next a) (told (Ok (record { word = Answer; tries = n }))) (ap told e) })),
-    each-later calls (to-next a) tt (reached (o .rules) (o .query) calls .given) g,
+    each-later calls (to-next a) tt (met o calls .given) g,
   )
-  word-given calls a g Spent n e = each-later calls (to-next a) tt (reached (o .rules) (o .query) calls .given) g
-  word-given calls a g (Stopped why) n e = each-later calls (to-next a) tt (reached (o .rules) (o .query) calls .given) g
-  word-given calls a g NoMore n e = each-later calls (to-next a) tt (reached (o .rules) (o .query) calls .given) g
+  word-given calls a g Spent n e = each-later calls (to-next a) tt (met o calls .given) g
+  word-given calls a g (Stopped why) n e = each-later calls (to-next a) tt (met o calls .given) g
+  word-given calls a g NoMore n e = each-later calls (to-next a) tt (met o calls .given) g
 
-  told-given : (calls : List Request) (a : ℕ) → Each (Gave calls) (reached (o .rules) (o .query) calls .given)
+  told-given : (calls : List Request) (a : ℕ) → Each (Gave calls) (met o calls .given)
       → (r : Result Outcome Refusal) → reached-next o calls a .result ≡ r
-      → Each (Gave (calls ++ (to-next a ∷ []))) (given-with r (reached-next o calls a .search .place) (reached (o .rules) (o .query) calls .given))
+      → Each (Gave (calls ++ (to-next a ∷ []))) (given-with r (reached-next o calls a .search .place) (met o calls .given))
   told-given calls a g (Ok out) e = word-given calls a g (out .word) (out .tries) e
-  told-given calls a g (Err x) e = each-later calls (to-next a) tt (reached (o .rules) (o .query) calls .given) g
+  told-given calls a g (Err x) e = each-later calls (to-next a) tt (met o calls .given) g
 
-  moved-given : (calls : List Request) (r : Request) → Each (Gave calls) (reached (o .rules) (o .query) calls .given)
-      → Each (Gave (calls ++ (r ∷ []))) (after-call (o .rules) (o .query) (move r) (reached (o .rules) (o .query) calls) .given)
+  moved-given : (calls : List Request) (r : Request) → Each (Gave calls) (met o calls .given)
+      → Each (Gave (calls ++ (r ∷ []))) (after-call (o .rules) (o .query) (move r) (met o calls) .given)
   moved-given calls (to-next a) g = told-given calls a g (reached-next o calls a .result) refl
   moved-given calls to-rewind g = tt
-  moved-given calls to-tally g = each-later calls to-tally tt (reached (o .rules) (o .query) calls .given) g
-  moved-given calls to-hold g = each-later calls to-hold tt (reached (o .rules) (o .query) calls .given) g
-  moved-given calls (to-answer buffer) g = each-later calls (to-answer buffer) tt (reached (o .rules) (o .query) calls .given) g
-  moved-given calls (to-slip buffer) g = each-later calls (to-slip buffer) tt (reached (o .rules) (o .query) calls .given) g
+  moved-given calls to-tally g = each-later calls to-tally tt (met o calls .given) g
+  moved-given calls to-hold g = each-later calls to-hold tt (met o calls .given) g
+  moved-given calls (to-answer buffer) g = each-later calls (to-answer buffer) tt (met o calls .given) g
+  moved-given calls (to-slip buffer) g = each-later calls (to-slip buffer) tt (met o calls .given) g
 
   abbrev All-gave : List Request → Type 0
-  All-gave calls = Each (Gave calls) (reached (o .rules) (o .query) calls .given)
+  All-gave calls = Each (Gave calls) (met o calls .given)
 
   more-gave : (calls : List Request) (r : Request) → All-gave calls → All-gave (calls ++ (r ∷ []))
   more-gave calls r g = subst (λ (z : Session). Each (Gave (calls ++ (r ∷ []))) (z .given)) (sym (reached-more o calls r)) (moved-given calls r g)
@@ -161,7 +161,7 @@ module _ (texts : List (List ℕ)) (bs : List ℕ) (o : Opened) (h : Opens texts
 
 pub none-means-none : None-means-none
 none-means-none texts bs o h calls a k θ f =
-    pick texts bs o h calls θ (reached (o .rules) (o .query) calls .given) (all-gave texts bs o h calls)
+    pick texts bs o h calls θ (met o calls .given) (all-gave texts bs o h calls)
     (Completeness.none-means-none (o .rules) (o .query) (well-declared texts bs o h) (map move calls) a
     (subst (Laws.Says NoMore) (sym (said-as o calls a NoMore k)) refl) θ f)
 
@@ -226,13 +226,13 @@ in-order texts bs o h calls between a b n k l = (
     second = (first ++ between) ++ (to-next b ∷ [])
 
     older : List Place
-    older = reached (o .rules) (o .query) calls .given
+    older = met o calls .given
 
-    kept : Behind (here texts bs o h first ∷ older) (reached (o .rules) (o .query) (first ++ between) .given)
+    kept : Behind (here texts bs o h first ∷ older) (met o (first ++ between) .given)
     kept =
-        subst (λ ps. Behind ps (reached (o .rules) (o .query) (first ++ between) .given)) (newest-after o calls a k)
-        (subst (λ (z : Session). Behind (reached (o .rules) (o .query) first .given) (z .given)) (sym (reached-append (o .rules) (o .query) first between))
-        (stays-given o between n (reached (o .rules) (o .query) first)))
+        subst (λ ps. Behind ps (met o (first ++ between) .given)) (newest-after o calls a k)
+        (subst (λ (z : Session). Behind (met o first .given) (z .given)) (sym (reached-append (o .rules) (o .query) first between))
+        (stays-given o between n (met o first)))
 
-    all-given : reached (o .rules) (o .query) second .given ≡ here texts bs o h second ∷ (kept .0 ++ (here texts bs o h first ∷ older))
+    all-given : met o second .given ≡ here texts bs o h second ∷ (kept .0 ++ (here texts bs o h first ∷ older))
     all-given = newest-after o (first ++ between) b l ∙ ap (λ ps. here texts bs o h second ∷ ps) (kept .1)

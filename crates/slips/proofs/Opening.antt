@@ -26,7 +26,7 @@ use Rattle.slips.specs.Laws.{Opens}
 use Rattle.slips.proofs.Passing.{fits-within, all-fits-within}
 use Rattle.slips.proofs.Atoms.{fits-small, all-fits-small, small-fresh, Small-rules, Small-place, small-stays}
 use Rattle.slips.proofs.Own.{Ready}
-use Rattle.slips.proofs.Runs.{move, reached}
+use Rattle.slips.proofs.Runs.{move, met}
 
 abbrev Fit-rules : List Rule → Type 0
 Fit-rules [] = Unit {0}
@@ -84,7 +84,7 @@ module _ (texts : List (List ℕ)) (bs : List ℕ) (o : Opened) (h : Opens texts
   well-declared = (fit-closed (o .rules) fit, all-fits-within (o .query .variables) (o .query .goals) (query-fit .declared))
 
   -- at every moment the place is ready
-  pub ready : (calls : List Request) → Ready (o .rules) (o .query) (reached (o .rules) (o .query) calls .search .place)
+  pub ready : (calls : List Request) → Ready (o .rules) (o .query) (met o calls .search .place)
   ready calls =
       record {
         tidy = kept .tidy;
@@ -101,10 +101,10 @@ module _ (texts : List (List ℕ)) (bs : List ℕ) (o : Opened) (h : Opens texts
       q : Query
       q = o .query
 
-      kept : Fitting rs (well-declared .0) q (reached rs q calls .search .place .goals) (reached rs q calls .search .place .cells) (reached rs q calls .search .place .branch)
+      kept : Fitting rs (well-declared .0) q (met o calls .search .place .goals) (met o calls .search .place .cells) (met o calls .search .place .branch)
       kept =
           all-kept rs (Fitting rs (well-declared .0) q) (fitting-stays rs (well-declared .0) q (well-declared .1)) q (fitting-opening rs (well-declared .0) q (well-declared .1)) (map move calls)
           .now-kept .0
 
-      limits : (length (reached rs q calls .search .place .branch) ≤ step-limit) × (length (reached rs q calls .search .place .cells) ≤ cell-limit)
+      limits : (length (met o calls .search .place .branch) ≤ step-limit) × (length (met o calls .search .place .cells) ≤ cell-limit)
       limits = within-limits rs q (omega (arith, query-fit .few-variables)) (map move calls)

@@ -133,14 +133,18 @@ module _ (rs : List Rule) (q : Query) where
 
 -- ── what a call returned, and what it returns ──
 
+-- the session that requests lead to from opening
+abbrev pub met : Opened → List Request → Session
+met o calls = reached (o .rules) (o .query) calls
+
 module _ (o : Opened) where
-  pub returns-as : (calls : List Request) (r : Request) (x : Reply) → Returns o calls r x → reply (o .rules) (o .query) r (reached (o .rules) (o .query) calls .search) ≡ x
+  pub returns-as : (calls : List Request) (r : Request) (x : Reply) → Returns o calls r x → reply (o .rules) (o .query) r (met o calls .search) ≡ x
   returns-as calls r x e =
-      let k = append-cancel-left (run (o .rules) (o .query) calls) (reply (o .rules) (o .query) r (reached (o .rules) (o .query) calls .search) ∷ []) (x ∷ [])
+      let k = append-cancel-left (run (o .rules) (o .query) calls) (reply (o .rules) (o .query) r (met o calls .search) ∷ []) (x ∷ [])
       (sym (returned (o .rules) (o .query) calls r) ∙ e) in
       cc
 
-  pub as-returns : (calls : List Request) (r : Request) (x : Reply) → reply (o .rules) (o .query) r (reached (o .rules) (o .query) calls .search) ≡ x → Returns o calls r x
+  pub as-returns : (calls : List Request) (r : Request) (x : Reply) → reply (o .rules) (o .query) r (met o calls .search) ≡ x → Returns o calls r x
   as-returns calls r x e = returned (o .rules) (o .query) calls r ∙ ap (λ y. run (o .rules) (o .query) calls ++ (y ∷ [])) e
 
 -- ── writing ──
@@ -188,10 +192,10 @@ pub buffers-stay : Buffers-stay
 buffers-stay =
     record {
       by-answer = λ o calls buffer now r e.
-          (let s : Search = reached (o .rules) (o .query) calls .search in
+          (let s : Search = met o calls .search in
           beyond-held (answer-bytes (slip-of (o .rules) (o .query) (s .place))) buffer now r (hold (s .condition)) (returns-as o calls (to-answer buffer) (wrote r now) e));
       by-slip = λ o calls buffer now r e.
-          (let s : Search = reached (o .rules) (o .query) calls .search in
+          (let s : Search = met o calls .search in
           beyond-held (slip-bytes (slip-of (o .rules) (o .query) (s .place))) buffer now r (hold (s .condition)) (returns-as o calls (to-slip buffer) (wrote r now) e));
     }
 
@@ -207,7 +211,7 @@ looked rs q (to-slip buffer) l s = refl
 
 pub looks-leave : Looks-leave
 looks-leave o calls r more l =
-    let s : Search = reached (o .rules) (o .query) calls .search in (
+    let s : Search = met o calls .search in (
       reply (o .rules) (o .query) r s,
       replies (o .rules) (o .query) more s,
       run-append (o .rules) (o .query) calls (r ∷ more)

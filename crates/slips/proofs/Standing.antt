@@ -22,7 +22,7 @@ use Rattle.slips.specs.Laws.{Opens, Stands, Written-reads-back, Own-slips-pass
 use Rattle.slips.proofs.Unknowns.{Known, All-known, all-appeared-known, replaced-renumbered}
 use Rattle.slips.proofs.Written.{Fit-slip, terms-written, answer-back, slip-back}
 use Rattle.slips.proofs.Own.{Ready, cell-renumbered, first-count, slip-fits, slip-passes}
-use Rattle.slips.proofs.Runs.{reached, standing-done, returns-as, as-returns, written-room, written-front}
+use Rattle.slips.proofs.Runs.{met, standing-done, returns-as, as-returns, written-room, written-front}
 use Rattle.slips.proofs.Opening.{query-read, few, well-declared, ready}
 
 hold-standing : (c : Condition) → hold c ≡ Ok tt → c ≡ standing
@@ -34,7 +34,7 @@ hold-standing (stopped why) e = let z : _≡_ {A = ℕ} 0 1 = cc in absurd (omeg
 module _ (texts : List (List ℕ)) (bs : List ℕ) (o : Opened) (h : Opens texts bs o) where
   -- the place that calls lead to, and its slip
   abbrev pub here : List Request → Place
-  here calls = reached (o .rules) (o .query) calls .search .place
+  here calls = met o calls .search .place
 
   abbrev pub slip-here : List Request → Slip
   slip-here calls = slip-of (o .rules) (o .query) (here calls)
@@ -42,7 +42,7 @@ module _ (texts : List (List ℕ)) (bs : List ℕ) (o : Opened) (h : Opens texts
   fit-here : (calls : List Request) → Fit-slip (slip-here calls)
   fit-here calls = slip-fits (o .rules) (o .query) (well-declared texts bs o h .0) (few texts bs o h) (here calls) (ready texts bs o h calls)
 
-  pub stands : (calls : List Request) → reached (o .rules) (o .query) calls .search .condition ≡ standing → Stands o calls (slip-here calls)
+  pub stands : (calls : List Request) → met o calls .search .condition ≡ standing → Stands o calls (slip-here calls)
   stands calls e =
       record {
         answers = λ buffer l. as-returns o calls (to-answer buffer) _ (ap (λ c. written-if (hold c) (answer-bytes (slip-here calls)) buffer) e ∙ written-room (answer-bytes (slip-here calls)) buffer l);
@@ -53,9 +53,9 @@ module _ (texts : List (List ℕ)) (bs : List ℕ) (o : Opened) (h : Opens texts
 
 pub written-reads-back : Written-reads-back
 written-reads-back texts bs o h calls e =
-    (slip-here texts bs o h calls, stands texts bs o h calls (hold-standing (reached (o .rules) (o .query) calls .search .condition) held-as))
+    (slip-here texts bs o h calls, stands texts bs o h calls (hold-standing (met o calls .search .condition) held-as))
   where
-    held-as : hold (reached (o .rules) (o .query) calls .search .condition) ≡ Ok tt
+    held-as : hold (met o calls .search .condition) ≡ Ok tt
     held-as = let k = returns-as o calls to-hold (held (Ok tt)) e in cc
 
 pub own-slips-pass : Own-slips-pass
@@ -64,9 +64,9 @@ own-slips-pass texts bs o h calls buffer now n e =
     ∙ slip-passes (o .rules) (o .query) (well-declared texts bs o h .0) (few texts bs o h) bs (query-read texts bs o h) (well-declared texts bs o h .1)
     (here texts bs o h calls) (ready texts bs o h calls) (standing-done (o .rules) (o .query) calls (front .0))
   where
-    front : (reached (o .rules) (o .query) calls .search .condition ≡ standing) × (take n now ≡ slip-bytes (slip-here texts bs o h calls))
+    front : (met o calls .search .condition ≡ standing) × (take n now ≡ slip-bytes (slip-here texts bs o h calls))
     front =
-        written-front (reached (o .rules) (o .query) calls .search .condition) (slip-bytes (slip-here texts bs o h calls)) buffer now n
+        written-front (met o calls .search .condition) (slip-bytes (slip-here texts bs o h calls)) buffer now n
         (returns-as o calls (to-slip buffer) (wrote (Ok n) now) e)
 
 -- ── what an answer covers is claimed by its bytes ──
