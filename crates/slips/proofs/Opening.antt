@@ -18,7 +18,7 @@ use Rattle.resolution.specs.Limits.{cell-limit, step-limit}
 use Rattle.resolution.proofs.Limits.{within-limits}
 use Rattle.resolution.proofs.Sessions.{all-kept}
 use Rattle.resolution.proofs.Steps.{Fitting, fitting-stays, fitting-opening}
-use Rattle.slips.specs.declared.OpeningFault.the-variants.{InQuery, TooManyRules, TooManyBytes}
+use Rattle.slips.specs.declared.faults.OpeningFault.the-variants.{InQuery, TooManyRules, TooManyBytes}
 use Rattle.slips.specs.Opening.{rule-or-none, rules-in, All-rules, total, Opened}
 use Rattle.slips.specs.Checker.{no-number}
 use Rattle.slips.specs.Runs.{Request}

@@ -25,9 +25,9 @@ use Rattle.resolution.specs.Follows.{by-rule, All-follow, no-goal, each-goal, Q
 use Rattle.resolution.specs.Limits.{step-limit}
 use Rattle.resolution.proofs.Follows.{left-follow, right-follow}
 use Rattle.resolution.proofs.Cells.{replaced-as, map-same, map-map}
-use Rattle.slips.specs.declared.SlipFault.the-variants.{Reading, Opening, NoStep, TooManySteps, NoRule, OtherGoal}
-use Rattle.slips.specs.declared.CheckFault.{CheckFault}
-use Rattle.slips.specs.declared.CheckFault.the-variants.{InQuery, InSlip}
+use Rattle.slips.specs.declared.faults.SlipFault.the-variants.{Reading, Opening, NoStep, TooManySteps, NoRule, OtherGoal}
+use Rattle.slips.specs.declared.faults.CheckFault.{CheckFault}
+use Rattle.slips.specs.declared.faults.CheckFault.the-variants.{InQuery, InSlip}
 use Rattle.slips.specs.Slips.{step-byte}
 use Rattle.slips.specs.Checker.{terms-at, begins, opens, step-operands, step-size, has-rule, same, step, steps, Claimed}
 use Rattle.slips.specs.Laws.{What-passes-follows}

@@ -22,8 +22,8 @@ use Rattle.resolution.specs.Calls.{at-tally, Call, ask-next, ask-rewind, ask, S
 use Rattle.resolution.proofs.Cells.{map-append}
 use Rattle.resolution.proofs.Lines.{Final, lines-final}
 use Rattle.resolution.proofs.Sessions.{sessions-keep, next-by}
-use Rattle.slips.specs.declared.WriteRefusal.{WriteRefusal}
-use Rattle.slips.specs.declared.WriteRefusal.the-variants.{NoRoom}
+use Rattle.slips.specs.declared.faults.WriteRefusal.{WriteRefusal}
+use Rattle.slips.specs.declared.faults.WriteRefusal.the-variants.{NoRoom}
 use Rattle.slips.specs.Slips.{slip-of, answer-bytes, slip-bytes}
 use Rattle.slips.specs.Opening.{Opened}
 use Rattle.slips.specs.Runs.{Request, to-next, to-rewind, to-tally, to-hold, to-answer, to-slip, Reply, wrote, hold, written, written-if, reply, after, replies, run}

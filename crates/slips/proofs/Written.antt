@@ -19,7 +19,7 @@ use Rattle.grammar.proofs.Encoded.{decoded-all}
 use Rattle.resolution.specs.Rules.{rule}
 use Rattle.resolution.specs.Cells.{present}
 use Rattle.resolution.specs.Limits.{step-limit}
-use Rattle.slips.specs.declared.CheckFault.{CheckFault}
+use Rattle.slips.specs.declared.faults.CheckFault.{CheckFault}
 use Rattle.slips.specs.Slips.{step-byte, end-byte, Slip-step, Slip, answer-bytes, step-bytes, steps-bytes, slip-bytes}
 use Rattle.slips.specs.Checker.{unknowns, no-number, placed, terms-at, begins, is-only, step-operands, step-size, has-rule, same, step}
 use Rattle.slips.specs.Reading.{answer-in, steps-in, slip-in}

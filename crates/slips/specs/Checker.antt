@@ -20,9 +20,9 @@ use Rattle.resolution.specs.Rules.{rule}
 use Rattle.resolution.specs.Cells.{present}
 use Rattle.resolution.specs.Follows.{Covers}
 use Rattle.resolution.specs.Limits.{step-limit}
-use Rattle.slips.specs.declared.SlipFault.the-variants.{Reading, Opening, NoStep, TooManySteps, NoRule, OtherGoal, NoEnd}
-use Rattle.slips.specs.declared.CheckFault.{CheckFault}
-use Rattle.slips.specs.declared.CheckFault.the-variants.{InQuery, InSlip}
+use Rattle.slips.specs.declared.faults.SlipFault.the-variants.{Reading, Opening, NoStep, TooManySteps, NoRule, OtherGoal, NoEnd}
+use Rattle.slips.specs.declared.faults.CheckFault.{CheckFault}
+use Rattle.slips.specs.declared.faults.CheckFault.the-variants.{InQuery, InSlip}
 use Rattle.slips.specs.Slips.{answer-byte, step-byte, end-byte}
 
 -- ── the parts of a slip ──

@@ -17,11 +17,11 @@ use Rattle.resolution.specs.declared.Word.the-variants.{Answer, Spent, Stopped,
 use Rattle.resolution.specs.declared.Refusal.the-variants.{Allowance}
 use Rattle.resolution.specs.Rules.{rule}
 use Rattle.resolution.specs.Examples.{list-of-3, fact, chain, from-5, before-7, twins, inside-itself, no-goals, circle, ask-circle}
-use Rattle.slips.specs.declared.OpeningFault.{OpeningFault}
-use Rattle.slips.specs.declared.WriteRefusal.the-variants.{NoAnswer, NoRoom}
-use Rattle.slips.specs.declared.SlipFault.the-variants.{Reading, TooManySteps}
-use Rattle.slips.specs.declared.CheckFault.{CheckFault}
-use Rattle.slips.specs.declared.CheckFault.the-variants.{InSlip}
+use Rattle.slips.specs.declared.faults.OpeningFault.{OpeningFault}
+use Rattle.slips.specs.declared.faults.WriteRefusal.the-variants.{NoAnswer, NoRoom}
+use Rattle.slips.specs.declared.faults.SlipFault.the-variants.{Reading, TooManySteps}
+use Rattle.slips.specs.declared.faults.CheckFault.{CheckFault}
+use Rattle.slips.specs.declared.faults.CheckFault.the-variants.{InSlip}
 use Rattle.slips.specs.Opening.{opening}
 use Rattle.slips.specs.Runs.{to-next, to-rewind, to-tally, to-hold, to-answer, to-slip, Reply, told, rewound, tallied, held, wrote, run}
 use Rattle.slips.specs.Checker.{has-rule, steps, check}

@@ -1,11 +1,11 @@
 -- The laws of slips, of runs of calls and of the checker. Assumes nothing.
 use mathlib.Core.Path.{_≡_}
 use mathlib.Core.List.{List, [], _∷_, _++_}
-use Prim.Native.Nat.{ℕ, _≤_}
+use Prim.Native.Nat.{ℕ, zero, suc, _≤_}
 use lib.ListN.{length, take, drop}
 use Rattle.std.specs.declared.result.Result.{Result}
 use Rattle.std.specs.declared.result.Result.the-variants.{Ok, Err}
-use Rattle.terms.specs.Terms.{Rule, Query}
+use Rattle.terms.specs.Terms.{Term, Rule, Query}
 use Rattle.grammar.specs.Singles.{query}
 use Rattle.grammar.specs.Encodings.{All-bytes}
 use Rattle.unification.specs.Ground.{Replacement}
@@ -13,12 +13,24 @@ use Rattle.resolution.specs.declared.Word.{Word}
 use Rattle.resolution.specs.declared.Word.the-variants.{Answer, NoMore}
 use Rattle.resolution.specs.Follows.{Query-follows}
 use Rattle.resolution.specs.Laws.{Later}
-use Rattle.slips.specs.declared.WriteRefusal.{WriteRefusal}
-use Rattle.slips.specs.Slips.{Slip, numbers, answer-bytes, slip-bytes}
+use Rattle.slips.specs.declared.faults.WriteRefusal.{WriteRefusal}
+use Rattle.slips.specs.Slips.{all-appeared, numbered, Slip, numbers, answer-bytes, slip-bytes}
 use Rattle.slips.specs.Opening.{All-rules, Opened, opening}
 use Rattle.slips.specs.Runs.{Request, to-next, to-rewind, to-tally, to-hold, to-answer, to-slip, Reply, told, held, wrote, run}
 use Rattle.slips.specs.Checker.{check, Claims}
 use Rattle.slips.specs.Reading.{answer-in, slip-in}
+
+-- ── unknowns ──
+
+-- the numbers below n, in order
+abbrev pub below : ℕ → List ℕ
+below zero = []
+below (suc n) = below n ++ (n ∷ [])
+
+-- terms at the front of a list are numbered as if they stood alone; unknowns first appear as 0, 1, 2 and so on
+pub record Unknowns-in-order : Type 0 where
+  pub front-alone : (n : ℕ) (ts : List Term) → take n (numbered ts) ≡ numbered (take n ts)
+  pub from-0 : (ts : List Term) → all-appeared [] (numbered ts) ≡ below (length (all-appeared [] ts))
 
 -- ── the checker ──
 

@@ -13,8 +13,8 @@ use Rattle.grammar.specs.Singles.{rule, query}
 use Rattle.grammar.specs.Items.{most-bytes, most-rules}
 use Rattle.grammar.specs.Encodings.{All-bytes}
 use Rattle.resolution.specs.Rules.{no-rule}
-use Rattle.slips.specs.declared.OpeningFault.{OpeningFault}
-use Rattle.slips.specs.declared.OpeningFault.the-variants.{InQuery, TooManyRules, TooManyBytes}
+use Rattle.slips.specs.declared.faults.OpeningFault.{OpeningFault}
+use Rattle.slips.specs.declared.faults.OpeningFault.the-variants.{InQuery, TooManyRules, TooManyBytes}
 
 -- the rule that these bytes are
 abbrev pub rule-or-none : Result Rule SingleFault → Rule

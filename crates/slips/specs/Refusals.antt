@@ -3,14 +3,14 @@ use Prim.Native.Nat.{ℕ}
 use Rattle.std.specs.declared.option.Option.{Option}
 use Rattle.std.specs.declared.option.Option.the-variants.{Some, None}
 use Rattle.grammar.specs.Refusals.{rule-number, rule-place, rule-layer, single-number, single-place, single-layer}
-use Rattle.slips.specs.declared.OpeningFault.{OpeningFault}
-use Rattle.slips.specs.declared.OpeningFault.the-variants.{InQuery as Query-unfit, TooManyRules, TooManyBytes}
-use Rattle.slips.specs.declared.WriteRefusal.{WriteRefusal}
-use Rattle.slips.specs.declared.WriteRefusal.the-variants.{NoAnswer, NoRoom}
-use Rattle.slips.specs.declared.SlipFault.{SlipFault}
-use Rattle.slips.specs.declared.SlipFault.the-variants.{Reading, Opening, NoStep, TooManySteps, NoRule, OtherGoal, NoEnd}
-use Rattle.slips.specs.declared.CheckFault.{CheckFault}
-use Rattle.slips.specs.declared.CheckFault.the-variants.{InQuery, InSlip}
+use Rattle.slips.specs.declared.faults.OpeningFault.{OpeningFault}
+use Rattle.slips.specs.declared.faults.OpeningFault.the-variants.{InQuery as Query-unfit, TooManyRules, TooManyBytes}
+use Rattle.slips.specs.declared.faults.WriteRefusal.{WriteRefusal}
+use Rattle.slips.specs.declared.faults.WriteRefusal.the-variants.{NoAnswer, NoRoom}
+use Rattle.slips.specs.declared.faults.SlipFault.{SlipFault}
+use Rattle.slips.specs.declared.faults.SlipFault.the-variants.{Reading, Opening, NoStep, TooManySteps, NoRule, OtherGoal, NoEnd}
+use Rattle.slips.specs.declared.faults.CheckFault.{CheckFault}
+use Rattle.slips.specs.declared.faults.CheckFault.the-variants.{InQuery, InSlip}
 
 -- ── opening ──
 

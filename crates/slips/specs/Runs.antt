@@ -11,8 +11,8 @@ use Rattle.resolution.specs.declared.Outcome.{Outcome}
 use Rattle.resolution.specs.declared.Refusal.{Refusal}
 use Rattle.resolution.specs.declared.Tally.{Tally}
 use Rattle.resolution.specs.Search.{Condition, running, standing, ended, stopped, Search, opened, next, rewind, tally}
-use Rattle.slips.specs.declared.WriteRefusal.{WriteRefusal}
-use Rattle.slips.specs.declared.WriteRefusal.the-variants.{NoAnswer, NoRoom}
+use Rattle.slips.specs.declared.faults.WriteRefusal.{WriteRefusal}
+use Rattle.slips.specs.declared.faults.WriteRefusal.the-variants.{NoAnswer, NoRoom}
 use Rattle.slips.specs.Slips.{slip-of, answer-bytes, slip-bytes}
 
 -- a call: next with an allowance, answer and slip with a buffer

@@ -1,4 +1,4 @@
-use Rattle.slips.proofs.written_reads_back.Needs as need
+use Rattle.slips.proofs.laws.written_reads_back.Needs as need
 use Rattle.slips.proofs.Standing.{written-reads-back}
 
 pub returns : need.returns

@@ -1,4 +1,4 @@
-use Rattle.slips.proofs.none_means_none.Needs as need
+use Rattle.slips.proofs.laws.none_means_none.Needs as need
 use Rattle.slips.proofs.Given.{none-means-none}
 
 pub returns : need.returns

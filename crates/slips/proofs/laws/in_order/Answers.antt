@@ -1,4 +1,4 @@
-use Rattle.slips.proofs.in_order.Needs as need
+use Rattle.slips.proofs.laws.in_order.Needs as need
 use Rattle.slips.proofs.Given.{in-order}
 
 pub returns : need.returns

@@ -1,4 +1,4 @@
-use Rattle.slips.proofs.buffers_stay.Needs as need
+use Rattle.slips.proofs.laws.buffers_stay.Needs as need
 use Rattle.slips.proofs.Runs.{buffers-stay}
 
 pub returns : need.returns

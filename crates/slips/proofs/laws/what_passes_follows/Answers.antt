@@ -1,4 +1,4 @@
-use Rattle.slips.proofs.what_passes_follows.Needs as need
+use Rattle.slips.proofs.laws.what_passes_follows.Needs as need
 use Rattle.slips.proofs.Passing.{what-passes-follows}
 
 pub returns : need.returns

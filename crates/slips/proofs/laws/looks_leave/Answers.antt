@@ -1,4 +1,4 @@
-use Rattle.slips.proofs.looks_leave.Needs as need
+use Rattle.slips.proofs.laws.looks_leave.Needs as need
 use Rattle.slips.proofs.Runs.{looks-leave}
 
 pub returns : need.returns
