@@ -89,9 +89,9 @@ same (pair s t) (pair u w) = same s u && same t w
 
 -- ── the questions ──
 
--- the step at p, after n steps, with g as the first goal: does a step stand here, with its operands; were there
--- fewer than 512 steps; is there such a rule; its terms; does its head become the goal? What follows goes on with
--- the goals of its rule, under its terms, and from the place after it.
+-- a step at p that is to show the goal g, when n steps are done. In this order: its first byte, its operands, room for one
+-- more step, its rule, its terms, and its head, which must be g. Then `more` gets what is to be shown for its rule's goals,
+-- and the place behind it.
 abbrev pub step : List Rule → List ℕ → ℕ → ℕ → Term → (List Term → ℕ → Result Unit CheckFault) → Result Unit CheckFault
 step rs slip n p g more =
     ask (begins step-byte (drop p slip)) (InSlip (NoStep p) n)
@@ -102,15 +102,15 @@ step rs slip n p g more =
     ask (same (present (t .0) (rule rs (o .0) .head)) g) (InSlip (OtherGoal p) n)
     (more (map (present (t .0)) (rule rs (o .0) .goals)) (t .1)))))))
 
--- the steps from the place p on, after n steps; goals that remain stand leftmost first, each under its own terms, and
--- a step's goals come before them. With no goal left, is `2F` the only byte left? (At most `left` more steps are taken;
--- with none left there were 512 before, so that what follows is never asked for.)
+-- from the place p on, when n steps are done, the slip must show these goals, the first of them next; what a step asks for
+-- comes before the others. Once nothing is to be shown, `2F` must close the slip. Only `left` more steps are looked into:
+-- with none of these left 512 are done, and a step has no room.
 abbrev pub steps : List Rule → List ℕ → ℕ → ℕ → ℕ → List Term → Result Unit CheckFault
 steps rs slip left n p [] = ask (is-only end-byte (drop p slip)) (InSlip (NoEnd p) n) (Ok tt)
 steps rs slip zero n p (g ∷ goals) = step rs slip n p g (λ own q. Err (InSlip (TooManySteps p) n))
 steps rs slip (suc left) n p (g ∷ goals) = step rs slip n p g (λ own q. steps rs slip left (suc n) q (own ++ goals))
 
--- the query's questions, the slip's opening, its first terms, and its steps
+-- the query is read, then the slip's opening and first terms, and then its steps
 abbrev pub check : List Rule → List ℕ → List ℕ → Result Unit CheckFault
 check rs bs slip =
     go (query bs) InQuery (λ q.
@@ -124,7 +124,6 @@ abbrev pub Claimed : ℕ → Result (List Term × ℕ) RuleFault → Replacement
 Claimed n (Ok t) θ = Covers n (t .0) θ
 Claimed n (Err e) θ = ⊥
 
--- a slip, or an answer, claims each replacement that its first terms, one for each of the query's variables, become when
--- their unknowns are replaced in some way
+-- what the terms at the front of a slip or of an answer may turn into, once something is put for their unknowns
 abbrev pub Claims : Query → List ℕ → Replacement → Type 0
 Claims q bytes θ = Claimed (q .variables) (terms-at (q .variables) 2 bytes) θ

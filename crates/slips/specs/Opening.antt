@@ -39,7 +39,7 @@ pub record Opened : Type 0 where
   pub rules : List Rule
   pub query : Query
 
--- the query's questions; are there too many rules, and too many bytes of rules and query together?
+-- the query is read, then the rules are counted, and then the bytes of rules and query together
 abbrev pub opening : List (List ℕ) → List ℕ → Result Opened OpeningFault
 opening texts bs =
     go (query bs) InQuery (λ q.
