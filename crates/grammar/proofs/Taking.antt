@@ -18,6 +18,7 @@ use Rattle.grammar.specs.declared.faults.CommandFault.{CommandFault}
 use Rattle.grammar.specs.declared.faults.CommandFault.the-variants.{Operands, NoTerm}
 use Rattle.grammar.specs.Refusals.{command-place}
 use Rattle.grammar.specs.TermCommands.{var-byte, two-operand, var-operand, command, operands, Commands, end, unfit, next, taken, commands-past, commands}
+pub use Rattle.grammar.specs.TermCommands.{place-of}
 
 -- a command with its first byte and the bytes after it
 pub data Front : Form → ℕ → List ℕ → Command → Type 0 where
@@ -75,12 +76,6 @@ one-more f p b bs c e =
 
 pub no-more : (f : Form) (p b : ℕ) (bs : List ℕ) (x : CommandFault) → command f p b bs ≡ Err x → commands f p (b ∷ bs) ≡ unfit x
 no-more f p b bs x e = ap (λ r. taken p r (λ c. commands-past f (operands f c) (p + 1) bs)) e
-
--- the place of the first command, or of the end
-abbrev pub place-of : Commands → ℕ
-place-of (end p) = p
-place-of (unfit e) = command-place e
-place-of (next p c cs) = p
 
 two-place : (p : ℕ) (make : ℕ → Command) (bs : List ℕ) (x : CommandFault) → two-operand p make bs ≡ Err x → command-place x ≡ p
 two-place p make [] x e = let i : x ≡ Operands p = cc in ap command-place i

@@ -14,6 +14,7 @@ use Rattle.grammar.specs.declared.faults.CommandFault.{CommandFault}
 use Rattle.grammar.specs.declared.faults.CommandFault.the-variants.{Operands, NoTerm}
 use Rattle.grammar.specs.declared.faults.RuleFault.{RuleFault}
 use Rattle.grammar.specs.declared.faults.RuleFault.the-variants.{Command as InCommand, TermMissing, Undeclared}
+use Rattle.grammar.specs.Refusals.{command-place}
 use Rattle.grammar.specs.Asking.{ask}
 
 -- ── one command ──
@@ -61,6 +62,12 @@ pub data Commands : Type 0 where
   end : ℕ → Commands
   unfit : CommandFault → Commands
   next : ℕ → Command → Commands → Commands
+
+-- the place of the first command, or of the end
+abbrev pub place-of : Commands → ℕ
+place-of (end p) = p
+place-of (unfit e) = command-place e
+place-of (next p c cs) = p
 
 abbrev pub taken : ℕ → Result Command CommandFault → (Command → Commands) → Commands
 taken p (Err e) more = unfit e

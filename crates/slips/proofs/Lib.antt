@@ -1,0 +1,10 @@
+pub mod Examples
+pub mod Passing
+pub mod Unknowns
+pub mod Atoms
+pub mod Written
+pub mod Own
+pub mod Runs
+pub mod Opening
+pub mod Standing
+pub mod Given
