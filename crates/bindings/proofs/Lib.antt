@@ -1,0 +1,4 @@
+pub mod Meanings
+pub mod Texts
+pub mod Chains
+pub mod Links

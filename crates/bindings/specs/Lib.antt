@@ -1,0 +1,5 @@
+pub mod Meanings
+pub mod Texts
+pub mod Trails
+pub mod Shapes
+pub mod Endings
