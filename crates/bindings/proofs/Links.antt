@@ -7,7 +7,7 @@ use Prim.Native.Nat.{ℕ, zero, suc, _+_, _*_, _<_, _≤_}
 use native.Mathlib.Omega.{arith}
 use native.Mathlib.Decide.{decLe}
 use lib.Dec.{T, eqb, eqb→eq}
-use lib.ListN.{length, getD, set, length-set}
+use lib.ListN.{length, getD, set, replicate, length-set}
 use lib.Seq.{getD-set-same, getD-set-other}
 use Rattle.std.proofs.shelf.Tests.{cases-eq}
 use Rattle.terms.specs.Terms.{Term, var}
@@ -154,6 +154,11 @@ free-trail text cs f = linked-trail text 0 [] cs none-bound (omega arith) (free-
 pub free-sound : (text : List ℕ) (n : ℕ) (cs : List Cell) → length text < 65536 → n ≤ length cs → length cs ≤ none-bound → ((i : ℕ) → getD cs i Free ≡ Free) → Sound text n cs none-bound
 free-sound text n cs s r w f =
     record { short = s; room = r; few = w; linked = subst (λ (M : Trail). Linked text n cs none-bound M) (sym (free-trail text cs f)) (free-linked text n cs f) }
+
+pub filled-free : (n i : ℕ) → getD (replicate n Free) i Free ≡ Free
+filled-free zero i = refl
+filled-free (suc n) zero = refl
+filled-free (suc n) (suc i) = filled-free n i
 
 beyond : (cs : List Cell) (i : ℕ) → length cs ≤ i → getD cs i Free ≡ Free
 beyond [] i h = refl

@@ -1,0 +1,7 @@
+// The search over fixed tables: a text of bytes, cells for variables and a branch of steps. Terms are places in
+// the text and are never copied.
+mod branch;
+mod cells;
+mod guard;
+mod text;
+mod unify;
