@@ -4,3 +4,4 @@ pub mod Chains
 pub mod Links
 pub mod Shapes
 pub mod Endings
+pub mod Presents

@@ -8,9 +8,9 @@ use lib.Dec.{eqb}
 use lib.ListN.{length, getD}
 use Rattle.terms.specs.Terms.{Term, var, atom, pair}
 use Rattle.unification.specs.Variables.{shifted, Within}
-use Rattle.unification.proofs.Variables.{within-more}
+use Rattle.unification.proofs.Variables.{within-more, within-shifted}
 use Rattle.bindings.specs.Meanings.{size}
-use Rattle.bindings.specs.Texts.{Spans, paired, read-within, tree, term, Stands}
+use Rattle.bindings.specs.Texts.{Spans, paired, read-within, tree, term, Stands, Declares}
 
 -- A term is not empty, stands inside, and is no larger than its bytes.
 pub inside : (text : List ℕ) (p : ℕ) (t : Term) (q : ℕ) → Spans text p t q → (p < q) × (q ≤ length text) × (size t + p ≤ q)
@@ -138,3 +138,8 @@ stands-of text n p l t q h b =
 -- What stands over some cells stands over more.
 pub stands-more : {text : List ℕ} {n m p l : ℕ} → n ≤ m → Stands text n p l → Stands text m p l
 stands-more {text} {n} {m} {p} {l} h s = record { end = s .end; spans = s .spans; within = within-more n m h (term text p l) (s .within) }
+
+-- What stands over its own variables stands over cells from any level on.
+pub declares-stands : {text : List ℕ} {v p : ℕ} (l n : ℕ) → l + v ≤ n → Declares text v p → Stands text n p l
+declares-stands {text} {v} {p} l n h d =
+    record { end = d .end; spans = d .spans; within = within-more (l + v) n h (term text p l) (within-shifted l v (tree text p) (d .within)) }

@@ -3,3 +3,4 @@ pub mod Texts
 pub mod Trails
 pub mod Shapes
 pub mod Endings
+pub mod Presents

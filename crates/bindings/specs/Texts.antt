@@ -40,3 +40,9 @@ pub record Stands (text : List ℕ) (n p l : ℕ) : Type 0 where
   pub end : ℕ
   pub spans : Spans text p (tree text p) end
   pub within : Within n (term text p l)
+
+-- a term stands at p, and its own variables are below v
+pub record Declares (text : List ℕ) (v p : ℕ) : Type 0 where
+  pub end : ℕ
+  pub spans : Spans text p (tree text p) end
+  pub within : Within v (tree text p)
