@@ -4,5 +4,6 @@ mod attempt;
 mod branch;
 mod cells;
 mod guard;
+mod tables;
 mod text;
 mod unify;
