@@ -5,3 +5,5 @@ pub mod Links
 pub mod Shapes
 pub mod Endings
 pub mod Presents
+pub mod Overlays
+pub mod Encodings

@@ -4,3 +4,4 @@ pub mod Trails
 pub mod Shapes
 pub mod Endings
 pub mod Presents
+pub mod Overlays

@@ -1,7 +1,7 @@
 -- Terms in a text of bytes. Assumes nothing.
 use mathlib.Core.Bool.{cond}
 use mathlib.Core.Path.{_≡_}
-use mathlib.Core.List.{List}
+use mathlib.Core.List.{List, [], _∷_}
 use Prim.Native.Nat.{ℕ, zero, suc, _+_, _*_, _<_}
 use lib.Dec.{eqb}
 use lib.ListN.{length, getD}
@@ -46,3 +46,8 @@ pub record Declares (text : List ℕ) (v p : ℕ) : Type 0 where
   pub end : ℕ
   pub spans : Spans text p (tree text p) end
   pub within : Within v (tree text p)
+
+-- the bytes stand in the text from p on
+abbrev pub Holds : List ℕ → ℕ → List ℕ → Type 0
+Holds text p [] = Unit {0}
+Holds text p (b ∷ bs) = (p < length text) × (getD text p 0 ≡ b) × Holds text (p + 1) bs

@@ -10,9 +10,8 @@ ghost use Rattle.bindings.specs.Trails.{Since, Sound, Term-in, meaning-at};
 ghost use Rattle.bindings.specs.Shapes.{Shows};
 ghost use Rattle.search.specs.Guards.{Only-bound};
 use crate::cells::unwind;
-use crate::text::ATOM;
 use crate::text::Text;
-use crate::text::VARIABLE;
+use crate::view::View;
 use bindings::Cell;
 use bindings::Shape;
 use bindings::TermAt;
@@ -65,28 +64,13 @@ impl Guard<'_> {
         self.newest = cell;
     }
 
-    // The form of a term: bound cells are looked up.
+    // The form of a term.
     pub(crate) fn shape(&self, text: &Text, term: TermAt) -> Shape
         requires sound { ⌜ Sound (now text .bytes) (now self .used) (now (now self .cells)) (now self .newest) ⌝ }
         requires stands { ⌜ Term-in (now text .bytes) (now self .used) term ⌝ }
         ensures { λ r. ⌜ Shows (now (text .entry) .bytes) (now (self .entry) .used) (now (now (self .entry) .cells)) (now (self .entry) .newest) (meaning-at (now (text .entry) .bytes) (now (now (self .entry) .cells)) (now (self .entry) .newest) term) r ⌝ }
     {
-        let mut at = term;
-        'looking: loop {
-            let place = at.place as usize;
-            let tag = text.bytes[place];
-            if tag == ATOM {
-                return Shape::Atom(text.bytes[place + 1] as u16 * 256 + text.bytes[place + 2] as u16);
-            }
-            if tag != VARIABLE {
-                return Shape::Pair(at);
-            }
-            let cell = at.level + text.bytes[place + 1] as u16;
-            let found = self.cells[cell as usize];
-            match found {
-                Cell::Free => return Shape::Open(cell),
-                Cell::Bound { place, level, .. } => at = TermAt { place, level },
-            }
-        }
+        let view = View { cells: &*self.cells, used: self.used, newest: self.newest };
+        view.shape(text, term)
     }
 }

@@ -7,3 +7,4 @@ mod guard;
 mod tables;
 mod text;
 mod unify;
+mod view;

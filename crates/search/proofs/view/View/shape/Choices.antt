@@ -3,7 +3,7 @@ use Prim.Native.Nat.{_<_}
 use Rattle.bindings.specs.Meanings.{lookups}
 use Rattle.bindings.specs.Texts.{term}
 use Rattle.bindings.specs.Trails.{Term-in, meaning-at, trail}
-use Rattle.search.proofs.guard.Guard.shape.Given as given
+use Rattle.search.proofs.view.View.shape.Given as given
 
 abbrev pub Inv-looking : given.InvT-looking
 Inv-looking l =

@@ -5,7 +5,7 @@ use native.Mathlib.Omega.{arith}
 use lib.ListN.{length}
 use Rattle.bindings.proofs.Texts.{inside, stands-atom, stands-variable}
 use Rattle.bindings.proofs.Shapes.{form-atom, form-free, form-bound}
-use Rattle.search.proofs.guard.Guard.shape.Needs as need
+use Rattle.search.proofs.view.View.shape.Needs as need
 
 pub index-text-place : need.index-text-place
 index-text-place c = let i = inside _ _ _ _ (c .looking .inv .2 .spans) in search needs
