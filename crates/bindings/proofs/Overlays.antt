@@ -3,7 +3,8 @@ use mathlib.Core.Path.{_≡_, refl, sym, ap, _∙_}
 use mathlib.Core.List.{List, [], _∷_, _++_}
 use Prim.Native.Nat.{ℕ, zero, suc, _+_, _<_, _≤_}
 use native.Mathlib.Omega.{arith}
-use lib.ListN.{length, getD, set}
+use lib.ListN.{length, getD, set, take}
+use Rattle.std.proofs.shelf.Lists.{take-more, length-take-le}
 use Rattle.bindings.specs.Overlays.{laid}
 
 pub laid-length : (k : ℕ) (bs xs : List ℕ) → length (laid k bs xs) ≡ length xs
@@ -54,3 +55,11 @@ laid-before zero j bs xs h = absurd (omega (arith, h))
 laid-before (suc k) j bs [] h = refl
 laid-before (suc k) zero bs (x ∷ xs) h = refl
 laid-before (suc k) (suc j) bs (x ∷ xs) h = laid-before k j bs xs (omega (arith, h))
+
+-- one byte more of those that are being laid
+pub laid-more : (k m i d : ℕ) (bs xs ys : List ℕ) → ys ≡ laid k (take i bs) xs → m ≡ k + i → i < length bs → set ys m (getD bs i d) ≡ laid k (take (i + 1) bs) xs
+laid-more k m i d bs xs ys e q h =
+    sym (laid-one m (getD bs i d) ys)
+    ∙ ap (laid m (getD bs i d ∷ [])) e
+    ∙ laid-then k m (take i bs) (getD bs i d ∷ []) xs (omega (arith, q, length-take-le i bs (omega (arith, h))))
+    ∙ ap (λ (l : List ℕ). laid k l xs) (sym (take-more bs i d h))

@@ -1,3 +1,4 @@
 pub mod Branches
 pub mod Guards
 pub mod Tries
+pub mod Sinks

@@ -4,6 +4,7 @@ mod attempt;
 mod branch;
 mod cells;
 mod guard;
+mod instance;
 mod tables;
 mod text;
 mod unify;

@@ -1,17 +1,16 @@
 // The text: the bytes of rules and query in one table.
 ghost use mathlib.Core.Path.{_≡_};
-ghost use mathlib.Core.Bool.{true, false};
 ghost use Prim.Native.Nat.{ℕ, _+_, _<_, _≤_};
 ghost use lib.ListN.{length, set};
 ghost use Rattle.terms.specs.Terms.{Term};
+ghost use Rattle.bindings.specs.Overlays.{laid};
 ghost use Rattle.bindings.specs.Texts.{Spans};
 use bindings::TermAt;
 
-const LONGEST: usize = 16_384;
-
-// the first bytes of a term that is an atom, and of one that is a variable
+// the first byte of an atom, of a variable and of a pair
 pub(crate) const ATOM: u8 = 0x01;
 pub(crate) const VARIABLE: u8 = 0x02;
+pub(crate) const PAIR: u8 = 0x03;
 
 // A reference to it is one word.
 #[derive(Drop)]
@@ -27,20 +26,28 @@ impl Text {
         Text { bytes: [0; 16384], used: 0 }
     }
 
-    // Puts a byte at the end, where one has room.
-    pub(crate) fn push(&mut self, byte: u8) -> bool
-        ensures full { λ r. ⌜ (r ≡ false → now (self .exit) ≡ now (self .entry)) ⌝ }
-        ensures bytes { λ r. ⌜ (r ≡ true → now (self .exit) .bytes ≡ set (now (self .entry) .bytes) (now (self .entry) .used) byte) ⌝ }
-        ensures used { λ r. ⌜ (r ≡ true → now (self .exit) .used ≡ now (self .entry) .used + 1) ⌝ }
-        ensures room { λ r. ⌜ (r ≡ true → now (self .entry) .used < 16384) ⌝ }
-        ensures done { λ r. ⌜ (now (self .entry) .used < 16384 → r ≡ true) ⌝ }
+    // Puts a byte at the end.
+    pub(crate) fn push(&mut self, byte: u8)
+        requires { ⌜ now self .used < 16384 ⌝ }
+        ensures bytes { λ _. ⌜ now (self .exit) .bytes ≡ set (now (self .entry) .bytes) (now (self .entry) .used) byte ⌝ }
+        ensures used { λ _. ⌜ now (self .exit) .used ≡ now (self .entry) .used + 1 ⌝ }
     {
-        if self.used >= LONGEST {
-            return false;
-        }
         self.bytes[self.used] = byte;
         self.used += 1;
-        true
+    }
+
+    // Puts bytes at the end, one by one; the place where they begin.
+    pub(crate) fn append(&mut self, bytes: &[u8]) -> u16
+        requires { ⌜ now self .used + length (now bytes) ≤ 16384 ⌝ }
+        ensures place { λ r. ⌜ r ≡ now (self .entry) .used ⌝ }
+        ensures bytes { λ _. ⌜ now (self .exit) .bytes ≡ laid (now (self .entry) .used) (now (bytes .entry)) (now (self .entry) .bytes) ⌝ }
+        ensures used { λ _. ⌜ now (self .exit) .used ≡ now (self .entry) .used + length (now (bytes .entry)) ⌝ }
+    {
+        let place = self.used as u16;
+        for byte in bytes.iter() {
+            self.push(*byte);
+        }
+        place
     }
 
     // The place after the term that begins at `place`.
