@@ -3,8 +3,11 @@ use mathlib.Core.Path.{_≡_}
 use mathlib.Core.Bool.{Bool, true, false, cond}
 use mathlib.Core.List.{List}
 use Prim.Native.Nat.{ℕ, _+_, _<_, _≤_}
+use lib.Dec.{leb}
 use lib.ListN.{length}
 use denote.Ref.{now, name}
+use Rattle.std.specs.declared.option.Option.{Option}
+use Rattle.std.specs.declared.option.Option.the-variants.{Some, None}
 use Rattle.bindings.specs.Overlays.{laid}
 use Rattle.search.specs.declared.instance.Sink.{Sink}
 
@@ -29,3 +32,19 @@ pub record Puts (s s′ : Sink) (bs : List ℕ) (r : Bool) : Type 0 where
   pub same : name (s′ .buffer) ≡ name (s .buffer)
   pub many : length (now (s′ .buffer)) ≡ length (now (s .buffer))
   pub says : Put-says s s′ bs r
+
+-- ── all the bytes of a term ──
+
+-- how many bytes there are, where the buffer has room for them
+abbrev pub fitting : List ℕ → List ℕ → Option ℕ
+fitting bs buffer = cond (leb (length bs) (length buffer)) (Some (length bs)) None
+
+-- the buffer with them at its beginning; as it was where it has no room
+abbrev pub written : List ℕ → List ℕ → List ℕ
+written bs buffer = cond (leb (length bs) (length buffer)) (laid 0 bs buffer) buffer
+
+-- the bytes went through a sink over the buffer, which only counted or wrote as well
+pub record Passed (writes : Bool) (buffer buffer′ bs : List ℕ) (r : Option ℕ) : Type 0 where
+  pub told : r ≡ fitting bs buffer
+  pub counted : writes ≡ false → buffer′ ≡ buffer
+  pub wrote : writes ≡ true → length bs ≤ length buffer → buffer′ ≡ laid 0 bs buffer

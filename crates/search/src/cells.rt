@@ -5,6 +5,7 @@ ghost use Prim.Native.Nat.{ℕ, _+_, _<_, _≤_};
 ghost use lib.ListN.{length, getD};
 ghost use Rattle.bindings.specs.declared.Cell.the-variants.{Free};
 ghost use Rattle.bindings.specs.Trails.{Since, none-bound};
+use crate::view::View;
 use bindings::Cell;
 
 // What `newest` says where no cell is bound.
@@ -44,6 +45,15 @@ impl Cells {
         ensures newest { λ r. ⌜ r .newest ≡ none-bound ⌝ }
     {
         Cells { table: [Cell::Free; 2048], used, newest: NONE_BOUND }
+    }
+
+    // The cells lent for reading.
+    pub(crate) fn view(&self) -> View<'_>
+        ensures cells { λ r. ⌜ now (r .cells) ≡ now (self .entry) .table ⌝ }
+        ensures used { λ r. ⌜ r .used ≡ now (self .entry) .used ⌝ }
+        ensures newest { λ r. ⌜ r .newest ≡ now (self .entry) .newest ⌝ }
+    {
+        View { cells: &self.table, used: self.used, newest: self.newest }
     }
 
     // Goes back to where so many cells were in use and `mark` was the newest bound one.

@@ -7,7 +7,7 @@ ghost use Rattle.terms.specs.declared.Form.the-variants.{Rules};
 ghost use Rattle.terms.specs.Terms.{var, atom};
 ghost use Rattle.terms.specs.Bytes.{two, encoding};
 ghost use Rattle.bindings.specs.Trails.{Sound, Term-in, meaning-at};
-ghost use Rattle.search.specs.Sinks.{Puts};
+ghost use Rattle.search.specs.Sinks.{Puts, Passed, fitting, written};
 use crate::text::first;
 use crate::text::Text;
 use crate::text::ATOM;
@@ -18,6 +18,7 @@ use bindings::Shape;
 use bindings::TermAt;
 
 // What takes bytes: it counts them, and writes them where it is told to.
+#[derive(Drop)]
 pub(crate) struct Sink<'a> {
     pub(crate) buffer: &'a mut [u8],
     pub(crate) count: usize,
@@ -81,4 +82,31 @@ fn write(view: &View, text: &Text, term: TermAt, sink: &mut Sink) -> bool
             }
         }
     }
+}
+
+// Puts the bytes of a term into a sink over the buffer; how many there are, where it has room for them.
+fn pass(view: &View, text: &Text, term: TermAt, buffer: &mut [u8], writing: bool) -> Option<usize>
+    requires sound { ⌜ Sound (now text .bytes) (now view .used) (now (now view .cells)) (now view .newest) ⌝ }
+    requires stands { ⌜ Term-in (now text .bytes) (now view .used) term ⌝ }
+    requires few { ⌜ now view .used ≤ 256 ⌝ }
+    ensures { λ r. ⌜ Passed writing (now (buffer .entry)) (now (buffer .exit)) (encoding Rules (meaning-at (now (text .entry) .bytes) (now (now (view .entry) .cells)) (now (view .entry) .newest) term)) r ⌝ }
+{
+    let mut sink = Sink { buffer, count: 0, writing };
+    if !write(view, text, term, &mut sink) {
+        return None;
+    }
+    Some(sink.count)
+}
+
+// Writes a term with all bindings put in at the beginning of the buffer, and returns its length. A term that is
+// longer than the buffer leaves it as it was.
+pub(crate) fn instance(view: &View, text: &Text, term: TermAt, buffer: &mut [u8]) -> Option<usize>
+    requires sound { ⌜ Sound (now text .bytes) (now view .used) (now (now view .cells)) (now view .newest) ⌝ }
+    requires stands { ⌜ Term-in (now text .bytes) (now view .used) term ⌝ }
+    requires few { ⌜ now view .used ≤ 256 ⌝ }
+    ensures length { λ r. ⌜ r ≡ fitting (encoding Rules (meaning-at (now (text .entry) .bytes) (now (now (view .entry) .cells)) (now (view .entry) .newest) term)) (now (buffer .entry)) ⌝ }
+    ensures buffer { λ _. ⌜ now (buffer .exit) ≡ written (encoding Rules (meaning-at (now (text .entry) .bytes) (now (now (view .entry) .cells)) (now (view .entry) .newest) term)) (now (buffer .entry)) ⌝ }
+{
+    pass(view, text, term, buffer, false)?;
+    pass(view, text, term, buffer, true)
 }
