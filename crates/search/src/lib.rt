@@ -3,6 +3,7 @@
 mod attempt;
 mod branch;
 mod cells;
+pub mod facts;
 mod guard;
 mod instance;
 mod tables;
