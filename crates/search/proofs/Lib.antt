@@ -1,0 +1,4 @@
+pub mod Turns
+pub mod Tries
+pub mod Sinks
+pub mod Common
