@@ -26,16 +26,16 @@ All-known xs [] = Unit {0}
 All-known xs (t ∷ ts) = Known xs t × All-known xs ts
 
 -- whatever is among xs is among ys
-abbrev Part : List ℕ → List ℕ → Type 0
+abbrev pub Part : List ℕ → List ℕ → Type 0
 Part xs ys = (x : ℕ) → among x xs ≡ true → among x ys ≡ true
 
-known-more : (xs ys : List ℕ) → Part xs ys → (t : Term) → Known xs t → Known ys t
+pub known-more : (xs ys : List ℕ) → Part xs ys → (t : Term) → Known xs t → Known ys t
 known-more xs ys h (var x) k = h x k
 known-more xs ys h (atom a) k = tt
 known-more xs ys h (pair s t) k = (known-more xs ys h s (k .0), known-more xs ys h t (k .1))
 
 -- one more at the end
-among-end : (k x : ℕ) (xs : List ℕ) → among k (xs ++ (x ∷ [])) ≡ cond (among k xs) true (eqb k x)
+pub among-end : (k x : ℕ) (xs : List ℕ) → among k (xs ++ (x ∷ [])) ≡ cond (among k xs) true (eqb k x)
 among-end k x [] = by (eqb k x)
   where
     by : (b : Bool) → cond b true false ≡ b
@@ -58,18 +58,18 @@ end-among x xs = among-end x x xs ∙ ap (cond (among x xs) true) (eq-eqb x x re
     by true = refl
     by false = refl
 
-appeared-part : (xs : List ℕ) (t : Term) → Part xs (appeared xs t)
+pub appeared-part : (xs : List ℕ) (t : Term) → Part xs (appeared xs t)
 appeared-part xs (var x) k e = cond-at (λ (l : List ℕ). among k l ≡ true) (among x xs) (λ _. e) (λ _. end-part x xs k e)
 appeared-part xs (atom a) k e = e
 appeared-part xs (pair s t) k e = appeared-part (appeared xs s) t k (appeared-part xs s k e)
 
-appeared-known : (xs : List ℕ) (t : Term) → Known (appeared xs t) t
+pub appeared-known : (xs : List ℕ) (t : Term) → Known (appeared xs t) t
 appeared-known xs (var x) = cond-at (λ (l : List ℕ). among x l ≡ true) (among x xs) (λ e. e) (λ e. end-among x xs)
 appeared-known xs (atom a) = tt
 appeared-known xs (pair s t) =
     (known-more (appeared xs s) (appeared (appeared xs s) t) (appeared-part (appeared xs s) t) s (appeared-known xs s), appeared-known (appeared xs s) t)
 
-all-appeared-part : (xs : List ℕ) (ts : List Term) → Part xs (all-appeared xs ts)
+pub all-appeared-part : (xs : List ℕ) (ts : List Term) → Part xs (all-appeared xs ts)
 all-appeared-part xs [] k e = e
 all-appeared-part xs (t ∷ ts) k e = all-appeared-part (appeared xs t) ts k (appeared-part xs t k e)
 
@@ -172,21 +172,21 @@ few-unknowns n ts w =
 -- ── numbers stay as more variables appear ──
 
 -- zs goes on from xs
-abbrev Extends : List ℕ → List ℕ → Type 0
+abbrev pub Extends : List ℕ → List ℕ → Type 0
 Extends xs zs = (ys : List ℕ) × (zs ≡ xs ++ ys)
 
 extends-itself : (xs : List ℕ) → Extends xs xs
 extends-itself xs = ([], sym (append-nil xs))
 
-extends-more : (xs ys zs : List ℕ) → Extends xs ys → Extends ys zs → Extends xs zs
+pub extends-more : (xs ys zs : List ℕ) → Extends xs ys → Extends ys zs → Extends xs zs
 extends-more xs ys zs (a, e) (b, f) = (a ++ b, f ∙ ap (λ l. l ++ b) e ∙ append-assoc xs a b)
 
-appeared-extends : (xs : List ℕ) (t : Term) → Extends xs (appeared xs t)
+pub appeared-extends : (xs : List ℕ) (t : Term) → Extends xs (appeared xs t)
 appeared-extends xs (var x) = cond-at (Extends xs) (among x xs) (λ _. extends-itself xs) (λ _. (x ∷ [], refl))
 appeared-extends xs (atom a) = extends-itself xs
 appeared-extends xs (pair s t) = extends-more xs (appeared xs s) (appeared (appeared xs s) t) (appeared-extends xs s) (appeared-extends (appeared xs s) t)
 
-all-appeared-extends : (xs : List ℕ) (ts : List Term) → Extends xs (all-appeared xs ts)
+pub all-appeared-extends : (xs : List ℕ) (ts : List Term) → Extends xs (all-appeared xs ts)
 all-appeared-extends xs [] = extends-itself xs
 all-appeared-extends xs (t ∷ ts) =
     extends-more xs (appeared xs t) (all-appeared (appeared xs t) ts) (appeared-extends xs t) (all-appeared-extends (appeared xs t) ts)
@@ -218,7 +218,7 @@ all-renumbered-kept : (xs ys : List ℕ) (ts : List Term) → All-known xs ts �
 all-renumbered-kept xs ys [] k = refl
 all-renumbered-kept xs ys (t ∷ ts) k = ap₂ _∷_ (renumbered-kept xs ys t (k .0)) (all-renumbered-kept xs ys ts (k .1))
 
-all-appeared-append : (xs : List ℕ) (ss ts : List Term) → all-appeared xs (ss ++ ts) ≡ all-appeared (all-appeared xs ss) ts
+pub all-appeared-append : (xs : List ℕ) (ss ts : List Term) → all-appeared xs (ss ++ ts) ≡ all-appeared (all-appeared xs ss) ts
 all-appeared-append xs [] ts = refl
 all-appeared-append xs (s ∷ ss) ts = all-appeared-append (appeared xs s) ss ts
 
