@@ -11,12 +11,12 @@ use Rattle.terms.specs.Terms.{Term}
 use Rattle.terms.specs.Bytes.{encoding}
 use Rattle.bindings.specs.declared.TermAt.{TermAt}
 use Rattle.bindings.specs.Meanings.{size}
-use Rattle.bindings.specs.Trails.{Term-in, meaning-at}
 use Rattle.bindings.specs.Overlays.{laid}
 use Rattle.bindings.proofs.Overlays.{laid-one, laid-then}
 use Rattle.search.specs.declared.instance.Sink.{Sink}
 use Rattle.search.specs.declared.view.View.{View}
-use Rattle.search.specs.Sinks.{Took, Refused, Put-says, Puts}
+use Rattle.search.specs.Views.{Seen-over, seen-as}
+use Rattle.search.specs.Sinks.{Puts}
 
 -- ── one byte ──
 
@@ -103,13 +103,9 @@ module _ {s u : Sink} {cs : List ℕ} where
 
 -- ── the bytes of a term ──
 
--- what a term means under the cells lent for reading
-abbrev pub seen-as : List ℕ → View → TermAt → Term
-seen-as text v t = meaning-at text (now (v .cells)) (v .newest) t
-
 -- from the sink s with the term a to be written, writing has come to the sink u with the term t
 pub record Sofar (text : List ℕ) (v : View) (s u : Sink) (a t : TermAt) : Type 0 where
-  pub stands : Term-in text (v .used) t
+  pub stands : Seen-over text v t
   pub weighs : size (seen-as text v t) ≤ size (seen-as text v a)
   pub leads : (w : Sink) (r : Bool) → Puts u w (encoding Rules (seen-as text v t)) r → Puts s w (encoding Rules (seen-as text v a)) r
 

@@ -6,16 +6,16 @@ use Prim.Native.Nat.{ℕ, _<_, _≤_}
 use native.Mathlib.Nat.{le-refl}
 use native.Mathlib.Omega.{arith}
 use denote.Ref.{now}
-use Rattle.terms.specs.Terms.{Term, pair}
+use Rattle.terms.specs.Terms.{pair}
 use Rattle.unification.specs.Unification.{unify}
 use Rattle.bindings.specs.declared.Cell.{Cell}
 use Rattle.bindings.specs.declared.TermAt.{TermAt}
 use Rattle.bindings.specs.Texts.{term}
-use Rattle.bindings.specs.Trails.{Sound, Term-in, meaning-at, weight}
+use Rattle.bindings.specs.Trails.{Sound, Term-in, weight}
 use Rattle.bindings.specs.Endings.{Ends}
 use Rattle.bindings.proofs.Endings.{case-pairs, both-ends, first-sound, weight-rest}
 use Rattle.search.specs.declared.guard.Guard.{Guard}
-use Rattle.search.specs.Guards.{Only-bound}
+use Rattle.search.specs.Guards.{Only-bound, In-order, Over, means}
 
 pub only-nothing : (g : Guard) → Only-bound g g
 only-nothing g = record { used = refl; mark = refl; keep = refl; same = refl; many = refl; since = λ was m s. s }
@@ -31,10 +31,6 @@ only-then {g} {h} {k} a b =
       ; since = λ was m s. b .since was m (a .since was m s)
       }
 
--- what a term means under a guard's cells
-abbrev pub means : List ℕ → Guard → TermAt → Term
-means text g t = meaning-at text (now (g .cells)) (g .newest) t
-
 -- unification of two terms under the guard g, where it leaves these cells and says r
 abbrev pub Ends-from : List ℕ → ℕ → Guard → TermAt → TermAt → List Cell → ℕ → Bool → Type 0
 Ends-from text n g a b cells k r = Ends text n (now (g .cells)) (g .newest) cells k (unify (means text g a) (means text g b)) r
@@ -42,13 +38,13 @@ Ends-from text n g a b cells k r = Ends text n (now (g .cells)) (g .newest) cell
 -- from the guard g with the terms a and b unification has come to the guard k with the terms s and t
 pub record Goes (text : List ℕ) (g k : Guard) (a b s t : TermAt) : Type 0 where
   pub only : Only-bound g k
-  pub sound : Sound text (k .used) (now (k .cells)) (k .newest)
-  pub left : Term-in text (k .used) s
-  pub right : Term-in text (k .used) t
+  pub sound : In-order text k
+  pub left : Over text k s
+  pub right : Over text k t
   pub weighs : weight text (now (k .cells)) (k .newest) s ≤ weight text (now (g .cells)) (g .newest) a
   pub leads : (cells : List Cell) (m : ℕ) (r : Bool) → Ends-from text (k .used) k s t cells m r → Ends-from text (g .used) g a b cells m r
 
-pub goes-none : (text : List ℕ) (g : Guard) (a b : TermAt) → Sound text (g .used) (now (g .cells)) (g .newest) → Term-in text (g .used) a → Term-in text (g .used) b → Goes text g g a b a b
+pub goes-none : (text : List ℕ) (g : Guard) (a b : TermAt) → In-order text g → Over text g a → Over text g b → Goes text g g a b a b
 goes-none text g a b s l r = record { only = only-nothing g; sound = s; left = l; right = r; weighs = le-refl _; leads = λ cells m r e. e }
 
 -- r is the rest of the pair s, whose first part is f

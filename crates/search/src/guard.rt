@@ -6,9 +6,9 @@ ghost use Prim.Native.Nat.{ℕ, _+_, _<_};
 ghost use lib.ListN.{length, getD, set};
 ghost use denote.Ref.{name};
 ghost use Rattle.bindings.specs.declared.Cell.the-variants.{Free, Bound};
-ghost use Rattle.bindings.specs.Trails.{Since, Sound, Term-in, meaning-at};
+ghost use Rattle.bindings.specs.Trails.{Since};
 ghost use Rattle.bindings.specs.Shapes.{Shows};
-ghost use Rattle.search.specs.Guards.{Only-bound};
+ghost use Rattle.search.specs.Guards.{In-order, Over, means, Only-bound};
 use crate::cells::unwind;
 use crate::text::Text;
 use crate::view::View;
@@ -66,9 +66,9 @@ impl Guard<'_> {
 
     // The form of a term.
     pub(crate) fn shape(&self, text: &Text, term: TermAt) -> Shape
-        requires sound { ⌜ Sound (now text .bytes) (now self .used) (now (now self .cells)) (now self .newest) ⌝ }
-        requires stands { ⌜ Term-in (now text .bytes) (now self .used) term ⌝ }
-        ensures { λ r. ⌜ Shows (now (text .entry) .bytes) (now (self .entry) .used) (now (now (self .entry) .cells)) (now (self .entry) .newest) (meaning-at (now (text .entry) .bytes) (now (now (self .entry) .cells)) (now (self .entry) .newest) term) r ⌝ }
+        requires sound { ⌜ In-order (now text .bytes) (now self) ⌝ }
+        requires stands { ⌜ Over (now text .bytes) (now self) term ⌝ }
+        ensures { λ r. ⌜ Shows (now (text .entry) .bytes) (now (self .entry) .used) (now (now (self .entry) .cells)) (now (self .entry) .newest) (means (now (text .entry) .bytes) (now (self .entry)) term) r ⌝ }
     {
         let view = View { cells: &*self.cells, used: self.used, newest: self.newest };
         view.shape(text, term)

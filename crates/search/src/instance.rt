@@ -6,7 +6,7 @@ ghost use lib.ListN.{length};
 ghost use Rattle.terms.specs.declared.Form.the-variants.{Rules};
 ghost use Rattle.terms.specs.Terms.{var, atom};
 ghost use Rattle.terms.specs.Bytes.{two, encoding};
-ghost use Rattle.bindings.specs.Trails.{Sound, Term-in, meaning-at};
+ghost use Rattle.search.specs.Views.{Seen-in-order, Seen-over, seen-as};
 ghost use Rattle.search.specs.Sinks.{Puts, Passed, fitting, written};
 use crate::text::first;
 use crate::text::Text;
@@ -61,10 +61,10 @@ impl Sink<'_> {
 
 // Puts the bytes of a term with all bindings put in, as far as there is room.
 fn write(view: &View, text: &Text, term: TermAt, sink: &mut Sink) -> bool
-    requires sound { ⌜ Sound (now text .bytes) (now view .used) (now (now view .cells)) (now view .newest) ⌝ }
-    requires stands { ⌜ Term-in (now text .bytes) (now view .used) term ⌝ }
+    requires sound { ⌜ Seen-in-order (now text .bytes) (now view) ⌝ }
+    requires stands { ⌜ Seen-over (now text .bytes) (now view) term ⌝ }
     requires few { ⌜ now view .used ≤ 256 ⌝ }
-    ensures { λ r. ⌜ Puts (now (sink .entry)) (now (sink .exit)) (encoding Rules (meaning-at (now (text .entry) .bytes) (now (now (view .entry) .cells)) (now (view .entry) .newest) term)) r ⌝ }
+    ensures { λ r. ⌜ Puts (now (sink .entry)) (now (sink .exit)) (encoding Rules (seen-as (now (text .entry) .bytes) (now (view .entry)) term)) r ⌝ }
 {
     let mut at = term;
     'rests: loop {
@@ -86,10 +86,10 @@ fn write(view: &View, text: &Text, term: TermAt, sink: &mut Sink) -> bool
 
 // Puts the bytes of a term into a sink over the buffer; how many there are, where it has room for them.
 fn pass(view: &View, text: &Text, term: TermAt, buffer: &mut [u8], writing: bool) -> Option<usize>
-    requires sound { ⌜ Sound (now text .bytes) (now view .used) (now (now view .cells)) (now view .newest) ⌝ }
-    requires stands { ⌜ Term-in (now text .bytes) (now view .used) term ⌝ }
+    requires sound { ⌜ Seen-in-order (now text .bytes) (now view) ⌝ }
+    requires stands { ⌜ Seen-over (now text .bytes) (now view) term ⌝ }
     requires few { ⌜ now view .used ≤ 256 ⌝ }
-    ensures { λ r. ⌜ Passed writing (now (buffer .entry)) (now (buffer .exit)) (encoding Rules (meaning-at (now (text .entry) .bytes) (now (now (view .entry) .cells)) (now (view .entry) .newest) term)) r ⌝ }
+    ensures { λ r. ⌜ Passed writing (now (buffer .entry)) (now (buffer .exit)) (encoding Rules (seen-as (now (text .entry) .bytes) (now (view .entry)) term)) r ⌝ }
 {
     let mut sink = Sink { buffer, count: 0, writing };
     if !write(view, text, term, &mut sink) {
@@ -101,11 +101,11 @@ fn pass(view: &View, text: &Text, term: TermAt, buffer: &mut [u8], writing: bool
 // Writes a term with all bindings put in at the beginning of the buffer, and returns its length. A term that is
 // longer than the buffer leaves it as it was.
 pub(crate) fn instance(view: &View, text: &Text, term: TermAt, buffer: &mut [u8]) -> Option<usize>
-    requires sound { ⌜ Sound (now text .bytes) (now view .used) (now (now view .cells)) (now view .newest) ⌝ }
-    requires stands { ⌜ Term-in (now text .bytes) (now view .used) term ⌝ }
+    requires sound { ⌜ Seen-in-order (now text .bytes) (now view) ⌝ }
+    requires stands { ⌜ Seen-over (now text .bytes) (now view) term ⌝ }
     requires few { ⌜ now view .used ≤ 256 ⌝ }
-    ensures length { λ r. ⌜ r ≡ fitting (encoding Rules (meaning-at (now (text .entry) .bytes) (now (now (view .entry) .cells)) (now (view .entry) .newest) term)) (now (buffer .entry)) ⌝ }
-    ensures buffer { λ _. ⌜ now (buffer .exit) ≡ written (encoding Rules (meaning-at (now (text .entry) .bytes) (now (now (view .entry) .cells)) (now (view .entry) .newest) term)) (now (buffer .entry)) ⌝ }
+    ensures length { λ r. ⌜ r ≡ fitting (encoding Rules (seen-as (now (text .entry) .bytes) (now (view .entry)) term)) (now (buffer .entry)) ⌝ }
+    ensures buffer { λ _. ⌜ now (buffer .exit) ≡ written (encoding Rules (seen-as (now (text .entry) .bytes) (now (view .entry)) term)) (now (buffer .entry)) ⌝ }
 {
     pass(view, text, term, buffer, false)?;
     pass(view, text, term, buffer, true)

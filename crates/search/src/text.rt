@@ -51,7 +51,7 @@ impl Text {
     }
 
     // The place after the term that begins at `place`.
-    fn end(&self, place: usize) -> usize
+    pub(crate) fn end(&self, place: usize) -> usize
         requires { ⌜ ((t : Term) × (q : ℕ) × Spans (now self .bytes) place t q) ⌝ }
         ensures { λ r. ⌜ ((t : Term) (q : ℕ) → Spans (now (self .entry) .bytes) place t q → r ≡ q) ⌝ }
     {

@@ -5,9 +5,7 @@ ghost use lib.ListN.{length, getD};
 ghost use Rattle.unification.specs.Variables.{occurs as occurs-in};
 ghost use Rattle.unification.specs.Unification.{bind as bind-to, unify as unifier};
 ghost use Rattle.bindings.specs.declared.Cell.the-variants.{Free};
-ghost use Rattle.bindings.specs.Trails.{Sound, Term-in, meaning-at};
-ghost use Rattle.bindings.specs.Endings.{Ends};
-ghost use Rattle.search.specs.Guards.{Only-bound};
+ghost use Rattle.search.specs.Guards.{In-order, Over, means, Comes-to, Only-bound};
 use crate::guard::Guard;
 use crate::text::first;
 use crate::text::Text;
@@ -16,9 +14,9 @@ use bindings::TermAt;
 
 // Whether the free cell occurs in the term.
 fn occurs(guard: &Guard, text: &Text, cell: u16, term: TermAt) -> bool
-    requires sound { ⌜ Sound (now text .bytes) (now guard .used) (now (now guard .cells)) (now guard .newest) ⌝ }
-    requires stands { ⌜ Term-in (now text .bytes) (now guard .used) term ⌝ }
-    ensures { λ r. ⌜ r ≡ occurs-in cell (meaning-at (now (text .entry) .bytes) (now (now (guard .entry) .cells)) (now (guard .entry) .newest) term) ⌝ }
+    requires sound { ⌜ In-order (now text .bytes) (now guard) ⌝ }
+    requires stands { ⌜ Over (now text .bytes) (now guard) term ⌝ }
+    ensures { λ r. ⌜ r ≡ occurs-in cell (means (now (text .entry) .bytes) (now (guard .entry)) term) ⌝ }
 {
     let mut at = term;
     'rests: loop {
@@ -38,12 +36,12 @@ fn occurs(guard: &Guard, text: &Text, cell: u16, term: TermAt) -> bool
 impl Guard<'_> {
     // The free cell takes the term, unless it occurs in it.
     fn assign(&mut self, text: &Text, cell: u16, term: TermAt) -> bool
-        requires sound { ⌜ Sound (now text .bytes) (now self .used) (now (now self .cells)) (now self .newest) ⌝ }
-        requires stands { ⌜ Term-in (now text .bytes) (now self .used) term ⌝ }
+        requires sound { ⌜ In-order (now text .bytes) (now self) ⌝ }
+        requires stands { ⌜ Over (now text .bytes) (now self) term ⌝ }
         requires inside { ⌜ cell < now self .used ⌝ }
         requires free { ⌜ getD (now (now self .cells)) cell Free ≡ Free ⌝ }
         ensures only { λ _. ⌜ Only-bound (now (self .entry)) (now (self .exit)) ⌝ }
-        ensures ends { λ r. ⌜ Ends (now (text .entry) .bytes) (now (self .entry) .used) (now (now (self .entry) .cells)) (now (self .entry) .newest) (now (now (self .exit) .cells)) (now (self .exit) .newest) (bind-to cell (meaning-at (now (text .entry) .bytes) (now (now (self .entry) .cells)) (now (self .entry) .newest) term)) r ⌝ }
+        ensures ends { λ r. ⌜ Comes-to (now (text .entry) .bytes) (now (self .entry)) (now (self .exit)) (bind-to cell (means (now (text .entry) .bytes) (now (self .entry)) term)) r ⌝ }
     {
         if occurs(self, text, cell, term) {
             return false;
@@ -55,11 +53,11 @@ impl Guard<'_> {
 
 // Makes two terms equal by bindings, where that can be.
 pub(crate) fn unify(text: &Text, guard: &mut Guard, left: TermAt, right: TermAt) -> bool
-    requires sound { ⌜ Sound (now text .bytes) (now guard .used) (now (now guard .cells)) (now guard .newest) ⌝ }
-    requires left { ⌜ Term-in (now text .bytes) (now guard .used) left ⌝ }
-    requires right { ⌜ Term-in (now text .bytes) (now guard .used) right ⌝ }
+    requires sound { ⌜ In-order (now text .bytes) (now guard) ⌝ }
+    requires left { ⌜ Over (now text .bytes) (now guard) left ⌝ }
+    requires right { ⌜ Over (now text .bytes) (now guard) right ⌝ }
     ensures only { λ _. ⌜ Only-bound (now (guard .entry)) (now (guard .exit)) ⌝ }
-    ensures ends { λ r. ⌜ Ends (now (text .entry) .bytes) (now (guard .entry) .used) (now (now (guard .entry) .cells)) (now (guard .entry) .newest) (now (now (guard .exit) .cells)) (now (guard .exit) .newest) (unifier (meaning-at (now (text .entry) .bytes) (now (now (guard .entry) .cells)) (now (guard .entry) .newest) left) (meaning-at (now (text .entry) .bytes) (now (now (guard .entry) .cells)) (now (guard .entry) .newest) right)) r ⌝ }
+    ensures ends { λ r. ⌜ Comes-to (now (text .entry) .bytes) (now (guard .entry)) (now (guard .exit)) (unifier (means (now (text .entry) .bytes) (now (guard .entry)) left) (means (now (text .entry) .bytes) (now (guard .entry)) right)) r ⌝ }
 {
     let mut s = left;
     let mut t = right;

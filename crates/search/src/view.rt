@@ -1,8 +1,8 @@
 // The cells as they are lent for reading.
 ghost use mathlib.Core.Path.{_≡_};
 ghost use Prim.Native.Nat.{ℕ, _+_, _<_};
-ghost use Rattle.bindings.specs.Trails.{Sound, Term-in, meaning-at};
 ghost use Rattle.bindings.specs.Shapes.{Shows};
+ghost use Rattle.search.specs.Views.{Seen-in-order, Seen-over, seen-as};
 use crate::text::ATOM;
 use crate::text::Text;
 use crate::text::VARIABLE;
@@ -21,9 +21,9 @@ pub(crate) struct View<'a> {
 impl View<'_> {
     // The form of a term: bound cells are looked up.
     pub(crate) fn shape(&self, text: &Text, term: TermAt) -> Shape
-        requires sound { ⌜ Sound (now text .bytes) (now self .used) (now (now self .cells)) (now self .newest) ⌝ }
-        requires stands { ⌜ Term-in (now text .bytes) (now self .used) term ⌝ }
-        ensures { λ r. ⌜ Shows (now (text .entry) .bytes) (now (self .entry) .used) (now (now (self .entry) .cells)) (now (self .entry) .newest) (meaning-at (now (text .entry) .bytes) (now (now (self .entry) .cells)) (now (self .entry) .newest) term) r ⌝ }
+        requires sound { ⌜ Seen-in-order (now text .bytes) (now self) ⌝ }
+        requires stands { ⌜ Seen-over (now text .bytes) (now self) term ⌝ }
+        ensures { λ r. ⌜ Shows (now (text .entry) .bytes) (now (self .entry) .used) (now (now (self .entry) .cells)) (now (self .entry) .newest) (seen-as (now (text .entry) .bytes) (now (self .entry)) term) r ⌝ }
     {
         let mut at = term;
         'looking: loop {

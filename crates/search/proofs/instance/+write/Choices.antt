@@ -1,5 +1,6 @@
 use Rattle.bindings.specs.Meanings.{size}
-use Rattle.search.proofs.Sinks.{seen-as, Sofar}
+use Rattle.search.specs.Views.{seen-as}
+use Rattle.search.proofs.Sinks.{Sofar}
 use Rattle.search.proofs.instance.+write.Given as given
 
 -- the replaced tree's size
