@@ -46,19 +46,19 @@ step-back {was} {m} {cs} {h} ne s = go (s .links) (s .chain) where
   go : (n : ℕ) → Back n was m cs h → Stepped was m cs h
   go zero c = absurd (ne (c .1))
   go (suc n) c =
-      record
-        { place = c .2 .0
-        ; level = c .2 .1
-        ; before = c .2 .2
-        ; inside = c .0
-        ; is = c .2 .3
-        ; rest =
-            record
-              { mark = λ lt f. let other : m ≢ h = λ e. ne (sym e) in s .mark (rw length-set at lt) (rw getD-set-other at f)
-              ; links = n
-              ; chain = c .2 .4
-              }
-        }
+      record {
+        place = c .2 .0;
+        level = c .2 .1;
+        before = c .2 .2;
+        inside = c .0;
+        is = c .2 .3;
+        rest =
+            record {
+              mark = λ lt f. let other : m ≢ h = λ e. ne (sym e) in s .mark (rw length-set at lt) (rw getD-set-other at f);
+              links = n;
+              chain = c .2 .4;
+            };
+      }
 
 -- The same, where the cell is known.
 pub step-on : {was : List Cell} {m : ℕ} {cs : List Cell} {h p l b : ℕ} → getD cs h Free ≡ Bound p l b → Stepped was m cs h → Since was m (set cs h Free) b
@@ -81,15 +81,15 @@ pub bind-since : (was : List Cell) (m : ℕ) (cs : List Cell) (h i p l : ℕ) �
     → Since was m cs h → Since was m (set cs i (Bound p l h)) i
 unfolding Back
 bind-since was m cs h i p l lt fr s =
-    record
-      { mark = λ ml f. let ne : m ≢ i = λ e. i-not-m (sym e) in s .mark (rw length-set at ml) (rw getD-set-other at f)
-      ; links = suc (s .links)
-      ; chain =
-          ( (rw length-set lt)
-          , i-not-m
-          , (p, l, h, getD-set-same cs i (Bound p l h) Free lt, subst (λ (ds : List Cell). Back (s .links) was m ds h) (sym (back-cells cs i (Bound p l h) fr)) (s .chain))
-          )
-      }
+    record {
+      mark = λ ml f. let ne : m ≢ i = λ e. i-not-m (sym e) in s .mark (rw length-set at ml) (rw getD-set-other at f);
+      links = suc (s .links);
+      chain = (
+        (rw length-set lt),
+        i-not-m,
+        (p, l, h, getD-set-same cs i (Bound p l h) Free lt, subst (λ (ds : List Cell). Back (s .links) was m ds h) (sym (back-cells cs i (Bound p l h) fr)) (s .chain)),
+      );
+    }
   where
     i-not-m : i ≡ m → ⊥
     i-not-m e = s .mark (subst (λ (x : ℕ). x < length cs) e lt) (subst (λ (x : ℕ). getD cs x Free ≡ Free) e fr)

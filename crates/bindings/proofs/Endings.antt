@@ -43,12 +43,14 @@ pub assign-yes : (text : List ℕ) (n : ℕ) (cs : List Cell) (h : ℕ) (ds : Li
     → Ends text n cs h ds k (bind x (meaning-at text cs h t)) true
 assign-yes text n cs h ds k x t g s lt fr e q r =
     subst (λ (b : Bool). Ends text n cs h ds k (cond b none (some ((x, meaning-at text cs h t) ∷ []))) true) (sym e)
-    (record { says =
-      ( refl
-      , subst (λ (es : List Cell). Applied text n cs h es k ((x, meaning-at text cs h t) ∷ [])) (sym q)
-        (subst (λ (y : ℕ). Applied text n cs h (set cs x (Bound (t .place) (t .level) h)) y ((x, meaning-at text cs h t) ∷ [])) (sym r)
-        (bind-applied g x (t .place) (t .level) lt fr s e))
-      ) })
+    (record {
+      says = (
+        refl,
+        subst (λ (es : List Cell). Applied text n cs h es k ((x, meaning-at text cs h t) ∷ [])) (sym q)
+            (subst (λ (y : ℕ). Applied text n cs h (set cs x (Bound (t .place) (t .level) h)) y ((x, meaning-at text cs h t) ∷ [])) (sym r)
+            (bind-applied g x (t .place) (t .level) lt fr s e)),
+      );
+    })
 
 pub var-other : (x y : ℕ) (m : Term) → m ≡ var y → (x ≡ y → ⊥) → is-variable x m ≡ false
 var-other x y m e n = ap (is-variable x) e ∙ eqb-false x y n
@@ -62,11 +64,11 @@ not-open g x m (Pair p) w shut = ap (is-variable x) (split g w .is)
 module _ {text : List ℕ} {n : ℕ} {cs : List Cell} {h : ℕ} where
   applied-then : {ds es : List Cell} {k m : ℕ} {σ τ : Substitution} → Applied text n cs h ds k σ → Applied text n ds k es m τ → Applied text n cs h es m (σ ++ τ)
   applied-then {ds} {es} {k} {m} {σ} {τ} f g =
-      record
-        { sound = g .sound
-        ; means = λ t. g .means t ∙ ap (apply τ) (f .means t) ∙ sym (apply-append σ τ (meaning (trail text cs h) t))
-        ; fewer = omega (arith, f .fewer, g .fewer, length-append σ τ)
-        }
+      record {
+        sound = g .sound;
+        means = λ t. g .means t ∙ ap (apply τ) (f .means t) ∙ sym (apply-append σ τ (meaning (trail text cs h) t));
+        fewer = omega (arith, f .fewer, g .fewer, length-append σ τ);
+      }
 
   after-ends : {ds es : List Cell} {k m : ℕ} {σ : Substitution} → Applied text n cs h ds k σ → (o : Option Substitution) (r : Bool) → Ends text n ds k es m o r → Ends text n cs h es m (followed σ o) r
   after-ends f none r e = record { says = e .says }

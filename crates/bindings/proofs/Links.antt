@@ -84,10 +84,10 @@ linked-acyclic : (text : List ℕ) (n : ℕ) (L : Trail) (cs : List Cell) (h : �
 unfolding Linked
 linked-acyclic text n [] cs h r e = tt
 linked-acyclic text n (b ∷ L) cs h r e =
-    let k = e .0 in
-    ( subst (λ (x : ℕ). Unbound x L) (sym (k .names)) (linked-free text n L (set cs h Free) (k .before) h (e .2) (getD-set-same cs h Free Free (omega (arith, k .inside, r))))
-    , e .1
-    , linked-acyclic text n L (set cs h Free) (k .before) (omega (arith, r, length-set cs h Free)) (e .2)
+    let k = e .0 in (
+      subst (λ (x : ℕ). Unbound x L) (sym (k .names)) (linked-free text n L (set cs h Free) (k .before) h (e .2) (getD-set-same cs h Free Free (omega (arith, k .inside, r)))),
+      e .1,
+      linked-acyclic text n L (set cs h Free) (k .before) (omega (arith, r, length-set cs h Free)) (e .2),
     )
 
 -- A bound cell has its binding on the trail, and the term stands.
@@ -96,20 +96,20 @@ linked-binds : (text : List ℕ) (n : ℕ) (L : Trail) (cs : List Cell) (h c p l
 unfolding Linked
 linked-binds text n [] cs h c p l o e f = absurd (bound-not-free p l o _ f (e .1 c))
 linked-binds text n (b ∷ L) cs h c p l o e f =
-    elim (cases-eq c h)
-      [ inl q ↦
+    elim (cases-eq c h) [
+      | inl q ↦
           let k = e .0 in
           let g : getD cs h Free ≡ Bound p l o = subst (λ (x : ℕ). getD cs x Free ≡ Bound p l o) q f in
           let i = k .is in
           let pp : k .place ≡ p = cc in
-          let ll : k .level ≡ l = cc in
-          ( inl (k .names ∙ sym q, k .holds ∙ ap₂ (λ (x y : ℕ). term text x y) pp ll)
-          , subst (λ (x : ℕ). Stands text n x l) pp (subst (λ (y : ℕ). Stands text n (k .place) y) ll (k .stands))
+          let ll : k .level ≡ l = cc in (
+            inl (k .names ∙ sym q, k .holds ∙ ap₂ (λ (x y : ℕ). term text x y) pp ll),
+            subst (λ (x : ℕ). Stands text n x l) pp (subst (λ (y : ℕ). Stands text n (k .place) y) ll (k .stands)),
           )
       | inr ne ↦
           let r = linked-binds text n L (set cs h Free) (e .0 .before) c p l o (e .2) (getD-set-other cs h c Free Free ne ∙ f) in
           (inr (r .0), r .1)
-      ]
+    ]
 
 linked-sized : (text : List ℕ) (n : ℕ) (L : Trail) (cs : List Cell) (h : ℕ) → Linked text n cs h L → All-sized (length text) L
 unfolding Linked
@@ -123,19 +123,19 @@ linked-more : (text : List ℕ) (n m : ℕ) (L : Trail) (cs : List Cell) (h : �
 unfolding Linked
 linked-more text n m [] cs h l e = e
 linked-more text n m (b ∷ L) cs h l e =
-    let k = e .0 in
-    ( record
-        { place = k .place
-        ; level = k .level
-        ; before = k .before
-        ; inside = omega (arith, k .inside, l)
-        ; is = k .is
-        ; names = k .names
-        ; holds = k .holds
-        ; stands = stands-more l (k .stands)
-        }
-    , e .1
-    , linked-more text n m L (set cs h Free) (k .before) l (e .2)
+    let k = e .0 in (
+      record {
+        place = k .place;
+        level = k .level;
+        before = k .before;
+        inside = omega (arith, k .inside, l);
+        is = k .is;
+        names = k .names;
+        holds = k .holds;
+        stands = stands-more l (k .stands);
+      },
+      e .1,
+      linked-more text n m L (set cs h Free) (k .before) l (e .2),
     )
 
 pub sound-more : {text : List ℕ} {n m : ℕ} {cs : List Cell} {h : ℕ} → n ≤ m → m ≤ length cs → Sound text n cs h → Sound text m cs h
@@ -185,8 +185,8 @@ module _ {text : List ℕ} {n : ℕ} {cs : List Cell} {h : ℕ} (sound : Sound t
   -- To look up a bound cell and go on with its term keeps the meaning, and takes one look-up less.
   pub sound-bound : (c p l o : ℕ) → getD cs c Free ≡ Bound p l o
       → (meaning (trail text cs h) (var c) ≡ meaning (trail text cs h) (term text p l))
-        × (lookups (trail text cs h) (var c) ≡ suc (lookups (trail text cs h) (term text p l)))
-        × Stands text n p l
+      × (lookups (trail text cs h) (var c) ≡ suc (lookups (trail text cs h) (term text p l)))
+      × Stands text n p l
   sound-bound c p l o f =
       let r = linked-binds text n (trail text cs h) cs h c p l o (sound .linked) f in
       let acyclic = linked-acyclic text n (trail text cs h) cs h (sound .room) (sound .linked) in
@@ -217,40 +217,40 @@ module _ {text : List ℕ} {n : ℕ} {cs : List Cell} {h : ℕ} (sound : Sound t
 
     now-linked : Linked text n (set cs i (Bound p l h)) i ((i, term text p l) ∷ trail text cs h)
     unfolding Linked
-    now-linked =
-        ( record
-            { place = p
-            ; level = l
-            ; before = h
-            ; inside = lt
-            ; is = getD-set-same cs i (Bound p l h) Free inside
-            ; names = refl
-            ; holds = refl
-            ; stands = st
-            }
-        , oc
-        , subst (λ (ds : List Cell). Linked text n ds h (trail text cs h)) (sym (back-cells cs i (Bound p l h) fr)) (sound .linked)
-        )
+    now-linked = (
+      record {
+        place = p;
+        level = l;
+        before = h;
+        inside = lt;
+        is = getD-set-same cs i (Bound p l h) Free inside;
+        names = refl;
+        holds = refl;
+        stands = st;
+      },
+      oc,
+      subst (λ (ds : List Cell). Linked text n ds h (trail text cs h)) (sym (back-cells cs i (Bound p l h) fr)) (sound .linked),
+    )
 
     -- A free cell bound is one binding more, and that is the one which the definition makes.
     pub bind-applied : Applied text n cs h (set cs i (Bound p l h)) i ((i, meaning (trail text cs h) (term text p l)) ∷ [])
     bind-applied =
         let room : n ≤ length (set cs i (Bound p l h)) = omega (arith, sound .room, length-set cs i (Bound p l h)) in
         let e : trail text (set cs i (Bound p l h)) i ≡ (i, term text p l) ∷ trail text cs h = linked-trail text n _ _ i room now-linked in
-        record
-          { sound =
-              record
-                { short = sound .short
-                ; room = room
-                ; few = rw length-set (sound .few)
-                ; linked = subst (λ (M : Trail). Linked text n (set cs i (Bound p l h)) i M) (sym e) now-linked
-                }
-          ; means = λ t. ap (λ (M : Trail). meaning M t) e
-          ; fewer =
+        record {
+          sound =
+              record {
+                short = sound .short;
+                room = room;
+                few = rw length-set (sound .few);
+                linked = subst (λ (M : Trail). Linked text n (set cs i (Bound p l h)) i M) (sym e) now-linked;
+              };
+          means = λ t. ap (λ (M : Trail). meaning M t) e;
+          fewer =
               let f = free-count-more (set cs i (Bound p l h)) i p l h (rw length-set inside) (getD-set-same cs i (Bound p l h) Free inside) in
               let b : free-count (set (set cs i (Bound p l h)) i Free) ≡ free-count cs = ap free-count (back-cells cs i (Bound p l h) fr) in
-              omega arith
-          }
+              omega arith;
+        }
 
 -- ── marks ──
 
@@ -285,12 +285,12 @@ since-sound text n was m cs h s g =
     let l = back-length (s .links) was m cs h (s .chain) in
     let o = back-older text n (s .links) was m cs h (trail text cs h) (s .chain) (g .linked) in
     let r : n ≤ length was = omega (arith, g .room) in
-    record
-      { short = g .short
-      ; room = r
-      ; few = omega (arith, g .few)
-      ; linked = subst (λ (M : Trail). Linked text n was m M) (sym (linked-trail text n (o .older) was m r (o .linked))) (o .linked)
-      }
+    record {
+      short = g .short;
+      room = r;
+      few = omega (arith, g .few);
+      linked = subst (λ (M : Trail). Linked text n was m M) (sym (linked-trail text n (o .older) was m r (o .linked))) (o .linked);
+    }
 
 -- The trail at a mark is the last part of the trail now.
 pub since-suffix : (text : List ℕ) (n : ℕ) (was : List Cell) (m : ℕ) (cs : List Cell) (h : ℕ) → Since was m cs h → Sound text n cs h

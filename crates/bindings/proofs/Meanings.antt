@@ -70,7 +70,7 @@ lookups-bound c t (b ∷ L) f (inl e) =
     here = omega (arith, one-bound, nought, lookups-unbound (b .0) L (f .0))
 lookups-bound c t (b ∷ L) f (inr h) =
     let e : cond (is-variable (b .0) (meaning L (var c))) (suc (lookups L (b .1))) 0 ≡ cond (is-variable (b .0) (meaning L t)) (suc (lookups L (b .1))) 0 =
-        ap (λ (s : Term). cond (is-variable (b .0) s) (suc (lookups L (b .1))) 0) (meaning-bound c t L (f .2) h) in
+    ap (λ (s : Term). cond (is-variable (b .0) s) (suc (lookups L (b .1))) 0) (meaning-bound c t L (f .2) h) in
     omega (arith, lookups-bound c t L (f .2) h)
 
 pub size-positive : (t : Term) → 1 ≤ size t

@@ -107,17 +107,17 @@ stands-pair {text} {n} {p} {l} s no-atom no-variable =
     let a : tree text (p + 1) ≡ f .left = spans-tree text (p + 1) (f .left) (f .mid) (f .at-left) in
     let b : tree text (f .mid) ≡ f .right = spans-tree text (f .mid) (f .right) (s .end) (f .at-right) in
     let e : term text p l ≡ pair (term text (p + 1) l) (term text (f .mid) l) =
-        ap (shifted l) (f .is) ∙ ap₂ (λ (x y : Term). pair (shifted l x) (shifted l y)) (sym a) (sym b) in
+    ap (shifted l) (f .is) ∙ ap₂ (λ (x y : Term). pair (shifted l x) (shifted l y)) (sym a) (sym b) in
     let w : Within n (pair (term text (p + 1) l) (term text (f .mid) l)) = subst (Within n) e (s .within) in
     let j = inside text (f .mid) (f .right) (s .end) (f .at-right) in
-    record
-      { mid = f .mid
-      ; spans = subst (λ (t : Term). Spans text (p + 1) t (f .mid)) (sym a) (f .at-left)
-      ; first = record { end = f .mid; spans = subst (λ (t : Term). Spans text (p + 1) t (f .mid)) (sym a) (f .at-left); within = w .0 }
-      ; rest = record { end = s .end; spans = subst (λ (t : Term). Spans text (f .mid) t (s .end)) (sym b) (f .at-right); within = w .1 }
-      ; before-end = omega arith
-      ; is = e
-      }
+    record {
+      mid = f .mid;
+      spans = subst (λ (t : Term). Spans text (p + 1) t (f .mid)) (sym a) (f .at-left);
+      first = record { end = f .mid; spans = subst (λ (t : Term). Spans text (p + 1) t (f .mid)) (sym a) (f .at-left); within = w .0 };
+      rest = record { end = s .end; spans = subst (λ (t : Term). Spans text (f .mid) t (s .end)) (sym b) (f .at-right); within = w .1 };
+      before-end = omega arith;
+      is = e;
+    }
 
 -- A shift keeps the size, and what stands is no larger than the text.
 pub shifted-size : (l : ℕ) (t : Term) → size (shifted l t) ≡ size t

@@ -42,10 +42,12 @@ Encodes f v p bs (Err e) = Unit {0}
 leaf-more : (f : Form) (v p : ℕ) (t : Term) (bs : List ℕ) (r : Reading) → Fits v t
     → Encodes f v (p + length (encoding f t)) bs r → Encodes f v p (encoding f t ++ bs) (with-term t r)
 leaf-more f v p t bs (Ok (ts, left)) k e =
-    record { rest = e .rest
-           ; split = ap (λ l. encoding f t ++ l) (e .split) ∙ sym (append-assoc (encoding f t) (encodings f ts) (e .rest))
-           ; after = e .after ∙ ap (λ n. commands f n (e .rest)) (omega (arith, length-append (encoding f t) (encodings f ts)))
-           ; fit = (k, e .fit) }
+    record {
+      rest = e .rest;
+      split = ap (λ l. encoding f t ++ l) (e .split) ∙ sym (append-assoc (encoding f t) (encodings f ts) (e .rest));
+      after = e .after ∙ ap (λ n. commands f n (e .rest)) (omega (arith, length-append (encoding f t) (encodings f ts)));
+      fit = (k, e .fit);
+    }
 leaf-more f v p t bs (Err x) k e = tt
 
 pair-more : (f : Form) (v n p : ℕ) (bs : List ℕ) (r : Reading) → Counted (suc (suc n)) r
@@ -54,10 +56,12 @@ pair-more f v n p bs (Ok ([], left)) c e = absurd (omega arith)
 pair-more f v n p bs (Ok (s ∷ [], left)) c e = absurd (omega arith)
 pair-more f v n p bs (Ok (s ∷ t ∷ ts, left)) c e =
     let same = append-assoc (encoding f s) (encoding f t) (encodings f ts) in
-    record { rest = e .rest
-           ; split = ap (λ l. 0x03 ∷ l) (e .split ∙ ap (λ l. l ++ e .rest) (sym same))
-           ; after = e .after ∙ ap (λ n. commands f n (e .rest)) (omega (arith, ap length same))
-           ; fit = ((e .fit .0, e .fit .1 .0), e .fit .1 .1) }
+    record {
+      rest = e .rest;
+      split = ap (λ l. 0x03 ∷ l) (e .split ∙ ap (λ l. l ++ e .rest) (sym same));
+      after = e .after ∙ ap (λ n. commands f n (e .rest)) (omega (arith, ap length same));
+      fit = ((e .fit .0, e .fit .1 .0), e .fit .1 .1);
+    }
 pair-more f v n p bs (Err x) c e = tt
 
 ask-more : (f : Form) (v p : ℕ) (bs : List ℕ) (b : Bool) (x : RuleFault) (r : Reading) → (b ≡ true → Encodes f v p bs r) → Encodes f v p bs (ask b x r)

@@ -61,10 +61,11 @@ frame-is : (v n p : ℕ) (bs : List ℕ) (ts : List Term) → All-bytes bs → u
     → (bs ≡ encodings Rules ts) × (length ts ≡ n) × All-fit v ts
 frame-is v n p bs ts a h =
     let u = used-end (terms v n (commands Rules p bs)) ts h in
-    let x : Encoded Rules v p bs ts (end (u .0)) = subst (Encodes Rules v p bs) (u .1) (encoded Rules v n p bs a) in
-    ( x .split ∙ ap (λ l. encodings Rules ts ++ l) (none-left Rules (p + length (encodings Rules ts)) (u .0) (x .rest) (sym (x .after))) ∙ append-nil (encodings Rules ts)
-    , subst (Counted n) (u .1) (counted v n (commands Rules p bs))
-    , x .fit )
+    let x : Encoded Rules v p bs ts (end (u .0)) = subst (Encodes Rules v p bs) (u .1) (encoded Rules v n p bs a) in (
+      x .split ∙ ap (λ l. encodings Rules ts ++ l) (none-left Rules (p + length (encodings Rules ts)) (u .0) (x .rest) (sym (x .after))) ∙ append-nil (encodings Rules ts),
+      subst (Counted n) (u .1) (counted v n (commands Rules p bs)),
+      x .fit,
+    )
 
 -- ── under a header ──
 
@@ -89,20 +90,22 @@ body-is due p h ts a e =
     let q7 = ask-yes (leb (h .size) longest && leb (h .size) (length (h .rest))) (Length p) _ ts (q6 .1) in
     let both = and-parts (leb (h .size) longest) (leb (h .size) (length (h .rest))) (q7 .0) in
     let f = frame-is (h .variables) due (p + header-size) (take (h .size) (h .rest)) ts (bytes-take (h .size) (h .rest) a) (q7 .1) in
-    record { few-variables = leb-true (h .variables) most-variables (q5 .0)
-           ; few-goals = leb-true (h .goals) most-goals (q6 .0)
-           ; short = leb-true (h .size) longest (both .0)
-           ; inside = leb-true (h .size) (length (h .rest)) (both .1)
-           ; bytes = f .0
-           ; count = f .1
-           ; fit = f .2 }
+    record {
+      few-variables = leb-true (h .variables) most-variables (q5 .0);
+      few-goals = leb-true (h .goals) most-goals (q6 .0);
+      short = leb-true (h .size) longest (both .0);
+      inside = leb-true (h .size) (length (h .rest)) (both .1);
+      bytes = f .0;
+      count = f .1;
+      fit = f .2;
+    }
 
 pub body-reads : (due p : ℕ) (h : Header) (ts : List Term) → Body due h ts → body due p h ≡ Ok ts
 body-reads due p h ts b =
     asked (leb (h .variables) most-variables) (Variables p) _ (le-leb (h .variables) most-variables (b .few-variables))
     ∙ asked (leb (h .goals) most-goals) (Goals p) _ (le-leb (h .goals) most-goals (b .few-goals))
     ∙ asked (leb (h .size) longest && leb (h .size) (length (h .rest))) (Length p) _
-      (and-from (leb (h .size) longest) (leb (h .size) (length (h .rest))) (le-leb (h .size) longest (b .short)) (le-leb (h .size) (length (h .rest)) (b .inside)))
+    (and-from (leb (h .size) longest) (leb (h .size) (length (h .rest))) (le-leb (h .size) longest (b .short)) (le-leb (h .size) (length (h .rest)) (b .inside)))
     ∙ ap (λ n. used-up (terms (h .variables) n (commands Rules (p + header-size) (take (h .size) (h .rest))))) (sym (b .count))
     ∙ ap (λ l. used-up (terms (h .variables) (length ts) (commands Rules (p + header-size) l))) (b .bytes ∙ sym (append-nil (encodings Rules ts)))
     ∙ ap used-up (decoded-all Rules (h .variables) (p + header-size) ts [] (b .fit))
@@ -125,9 +128,10 @@ header-is p (v ∷ []) h a e = let z : _≡_ {A = ℕ} 0 1 = cc in absurd (omega
 header-is p (v ∷ g ∷ []) h a e = let z : _≡_ {A = ℕ} 0 1 = cc in absurd (omega arith)
 header-is p (v ∷ g ∷ x ∷ []) h a e = let z : _≡_ {A = ℕ} 0 1 = cc in absurd (omega arith)
 header-is p (v ∷ g ∷ x ∷ y ∷ rest) h a e =
-    let same : h ≡ record { variables = v; goals = g; size = x * 256 + y; rest = rest } = cc in
-    ( ap₂ (λ i j. v ∷ g ∷ i ∷ j ∷ rest) (sym (high x y (a .1 .1 .1 .0))) (sym (low x y (a .1 .1 .1 .0))) ∙ ap header-bytes (sym same)
-    , subst (λ k. All-bytes (k .rest)) (sym same) (a .1 .1 .1 .1) )
+    let same : h ≡ record { variables = v; goals = g; size = x * 256 + y; rest = rest } = cc in (
+      ap₂ (λ i j. v ∷ g ∷ i ∷ j ∷ rest) (sym (high x y (a .1 .1 .1 .0))) (sym (low x y (a .1 .1 .1 .0))) ∙ ap header-bytes (sym same),
+      subst (λ k. All-bytes (k .rest)) (sym same) (a .1 .1 .1 .1),
+    )
 
 pub header-reads : (p : ℕ) (h : Header) → header p (header-bytes h) ≡ Ok h
 header-reads p h =
@@ -140,22 +144,25 @@ over-terms v g ts more = record { variables = v; goals = g; size = length (encod
 
 pub within-body : (due v g : ℕ) (ts : List Term) (more : List ℕ) → Within v g ts → length ts ≡ due → Body due (over-terms v g ts more) ts
 within-body due v g ts more w c =
-    record { few-variables = w .few-variables
-           ; few-goals = w .few-goals
-           ; short = w .short
-           ; inside = omega (arith, length-append (encodings Rules ts) more)
-           ; bytes = take-at (encodings Rules ts) more (length (encodings Rules ts)) refl
-           ; count = c
-           ; fit = w .declared }
+    record {
+      few-variables = w .few-variables;
+      few-goals = w .few-goals;
+      short = w .short;
+      inside = omega (arith, length-append (encodings Rules ts) more);
+      bytes = take-at (encodings Rules ts) more (length (encodings Rules ts)) refl;
+      count = c;
+      fit = w .declared;
+    }
 
 -- a body stands under its header, whose length is that of its terms
 pub body-within : (due : ℕ) (h : Header) (ts : List Term) → Body due h ts
     → Within (h .variables) (h .goals) ts × (h .size ≡ length (encodings Rules ts)) × (h .rest ≡ encodings Rules ts ++ drop (h .size) (h .rest))
 body-within due h ts b =
-    let long : h .size ≡ length (encodings Rules ts) = sym (length-take-le (h .size) (h .rest) (b .inside)) ∙ ap length (b .bytes) in
-    ( record { few-variables = b .few-variables; few-goals = b .few-goals; short = omega (arith, b .short); declared = b .fit }
-    , long
-    , sym (take-append-drop (h .size) (h .rest)) ∙ ap (λ l. l ++ drop (h .size) (h .rest)) (b .bytes) )
+    let long : h .size ≡ length (encodings Rules ts) = sym (length-take-le (h .size) (h .rest) (b .inside)) ∙ ap length (b .bytes) in (
+      record { few-variables = b .few-variables; few-goals = b .few-goals; short = omega (arith, b .short); declared = b .fit },
+      long,
+      sym (take-append-drop (h .size) (h .rest)) ∙ ap (λ l. l ++ drop (h .size) (h .rest)) (b .bytes),
+    )
 
 -- ── by itself ──
 
@@ -169,7 +176,7 @@ module _ {T : Type 0} (byte : ℕ) (due : Header → ℕ) (make : ℕ → List T
       ∙ ap (λ r. go r (λ e. Inside (InCommand e)) (λ h. go (body (due h) 0 h) Inside (λ ts. ask (leb (length (h .rest)) (h .size)) (BytesLeft (header-size + h .size)) (Ok (make (h .variables) ts))))) (header-reads 0 h)
       ∙ ap (λ r. go r Inside (λ ts. ask (leb (length (h .rest)) (h .size)) (BytesLeft (header-size + h .size)) (Ok (make v ts)))) (body-reads (due h) 0 h ts (within-body (due h) v g ts [] w c))
       ∙ asked (leb (length (h .rest)) (h .size)) (BytesLeft (header-size + h .size)) (Ok (make v ts))
-        (le-leb (length (h .rest)) (h .size) (omega (arith, ap length (append-nil (encodings Rules ts)))))
+      (le-leb (length (h .rest)) (h .size) (omega (arith, ap length (append-nil (encodings Rules ts)))))
 
   -- what was read, with the terms that it is made of
   pub record Alone (bs : List ℕ) (x : T) : Type 0 where
@@ -193,11 +200,13 @@ module _ {T : Type 0} (byte : ℕ) (due : Header → ℕ) (make : ℕ → List T
       let w = body-within (due h) h ts bd in
       let q12 = ask-yes (leb (length (h .rest)) (h .size)) (BytesLeft (header-size + h .size)) (Ok (make (h .variables) ts)) x (q8 .2) in
       let whole : h .rest ≡ encodings Rules ts = sym (take-all (h .size) (h .rest) (leb-true (length (h .rest)) (h .size) (q12 .0))) ∙ bd .bytes in
-      record { head = h
-             ; ts = ts
-             ; is = let same : make (h .variables) ts ≡ x = (let o : _≡_ {A = Result T SingleFault} (Ok (make (h .variables) ts)) (Ok x) = q12 .1 in cc) in sym same
-             ; bytes =
-                 ap₂ (λ i l. i ∷ l) (eqb-true b byte (q2 .0)) (hd .0)
-                 ∙ ap₂ (λ n l. byte ∷ h .variables ∷ h .goals ∷ (two n ++ l)) (w .1) whole
-             ; within = w .0
-             ; count = bd .count }
+      record {
+        head = h;
+        ts = ts;
+        is = let same : make (h .variables) ts ≡ x = (let o : _≡_ {A = Result T SingleFault} (Ok (make (h .variables) ts)) (Ok x) = q12 .1 in cc) in sym same;
+        bytes =
+            ap₂ (λ i l. i ∷ l) (eqb-true b byte (q2 .0)) (hd .0)
+            ∙ ap₂ (λ n l. byte ∷ h .variables ∷ h .goals ∷ (two n ++ l)) (w .1) whole;
+        within = w .0;
+        count = bd .count;
+      }

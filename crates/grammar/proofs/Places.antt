@@ -119,9 +119,9 @@ body-place due p h e q =
     (λ q. ask-place rule-place hi (leb (h .goals) most-goals) (Goals p) _ e q (omega arith)
     (λ q. ask-place rule-place hi (leb (h .size) longest && leb (h .size) (length (h .rest))) (Length p) _ e q (omega arith)
     (λ q.
-        let r = terms (h .variables) due (commands Rules (p + header-size) bs) in
-        let s = used-place (p + header-size) (p + header-size + length bs) r e (stand Rules (h .variables) (length bs) due (p + header-size) bs (omega arith)) q in
-        omega arith)))
+    let r = terms (h .variables) due (commands Rules (p + header-size) bs) in
+    let s = used-place (p + header-size) (p + header-size + length bs) r e (stand Rules (h .variables) (length bs) due (p + header-size) bs (omega arith)) q in
+    omega arith)))
 
 header-long : (p : ℕ) (bs : List ℕ) (h : Header) → header p bs ≡ Ok h → length bs ≡ 4 + length (h .rest)
 header-long p [] h e = let z : _≡_ {A = ℕ} 0 1 = cc in absurd (omega arith)
@@ -261,6 +261,8 @@ book-inside bs e h =
 
 pub faults-inside : Faults-stand-inside
 faults-inside =
-    record { in-rule = single-inside rule-byte rule-due rule-of
-           ; in-query = single-inside query-byte query-due query-of
-           ; in-book = book-inside }
+    record {
+      in-rule = single-inside rule-byte rule-due rule-of;
+      in-query = single-inside query-byte query-due query-of;
+      in-book = book-inside;
+    }

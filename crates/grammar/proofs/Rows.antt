@@ -59,18 +59,20 @@ rule-read n p b bs i k t a e =
     let is : rule (rule-of (h .variables) ts) ≡ i = ap (λ x. x .0) pairs in
     let len : 4 + h .size ≡ k = ap (λ x. x .1) pairs in
     let long : length (item-bytes i) ≡ 5 + length (encodings Rules ts) =
-        ap (λ x. length (item-bytes x)) (sym is) ∙ ap length (r .1) ∙ omega arith in
+    ap (λ x. length (item-bytes x)) (sym is) ∙ ap length (r .1) ∙ omega arith in
     let after : drop k bs ≡ drop (h .size) (h .rest) =
-        ap (drop k) (hd .0) ∙ ap (λ m. drop m (header-bytes h)) (sym len ∙ (let four : 4 + h .size ≡ suc (suc (suc (suc (h .size)))) = omega arith in four)) in
-    record { split =
-               ap₂ (λ x l. x ∷ l) t (hd .0)
-               ∙ ap₂ (λ m l. rule-byte ∷ h .variables ∷ h .goals ∷ (two m ++ l)) (w .1) (w .2)
-               ∙ ap (λ l. l ++ drop (h .size) (h .rest)) (sym (r .1) ∙ ap item-bytes is)
-               ∙ ap (λ l. item-bytes i ++ l) (sym after)
-           ; inside = omega (arith, ap length (hd .0), bd .inside)
-           ; size = omega (arith, long, w .1)
-           ; fit = subst Fit-item is (r .0)
-           ; room = subst (λ x. n + counts x ≤ max n most-rules) is (omega (arith, ltb-true n most-rules (q4 .0))) }
+    ap (drop k) (hd .0) ∙ ap (λ m. drop m (header-bytes h)) (sym len ∙ (let four : 4 + h .size ≡ suc (suc (suc (suc (h .size)))) = omega arith in four)) in
+    record {
+      split =
+          ap₂ (λ x l. x ∷ l) t (hd .0)
+          ∙ ap₂ (λ m l. rule-byte ∷ h .variables ∷ h .goals ∷ (two m ++ l)) (w .1) (w .2)
+          ∙ ap (λ l. l ++ drop (h .size) (h .rest)) (sym (r .1) ∙ ap item-bytes is)
+          ∙ ap (λ l. item-bytes i ++ l) (sym after);
+      inside = omega (arith, ap length (hd .0), bd .inside);
+      size = omega (arith, long, w .1);
+      fit = subst Fit-item is (r .0);
+      room = subst (λ x. n + counts x ≤ max n most-rules) is (omega (arith, ltb-true n most-rules (q4 .0)));
+    }
 
 world-read : (n p b : ℕ) (bs : List ℕ) (i : Item) (k : ℕ) → b ≡ world-byte → All-bytes bs → world-item p bs ≡ Ok (i, k) → Item-read n b bs i k
 world-read n p b [] i k t a e = let z : _≡_ {A = ℕ} 0 1 = cc in absurd (omega arith)
@@ -78,11 +80,13 @@ world-read n p b (w ∷ bs) i k t a e =
     let pairs : _≡_ {A = Item × ℕ} (world w, 1) (i, k) = cc in
     let is : world w ≡ i = ap (λ x. x .0) pairs in
     let len : 1 ≡ k = ap (λ x. x .1) pairs in
-    record { split = ap (λ x. x ∷ w ∷ bs) t ∙ ap₂ (λ x m. item-bytes x ++ drop m (w ∷ bs)) is len
-           ; inside = omega arith
-           ; size = ap (λ x. length (item-bytes x)) (sym is) ∙ omega arith
-           ; fit = subst Fit-item is (a .0)
-           ; room = subst (λ x. n + counts x ≤ max n most-rules) is (omega arith) }
+    record {
+      split = ap (λ x. x ∷ w ∷ bs) t ∙ ap₂ (λ x m. item-bytes x ++ drop m (w ∷ bs)) is len;
+      inside = omega arith;
+      size = ap (λ x. length (item-bytes x)) (sym is) ∙ omega arith;
+      fit = subst Fit-item is (a .0);
+      room = subst (λ x. n + counts x ≤ max n most-rules) is (omega arith);
+    }
 
 pub item-read : (n p b : ℕ) (bs : List ℕ) (i : Item) (k : ℕ) → All-bytes bs → item n p b bs ≡ Ok (i, k) → Item-read n b bs i k
 item-read n p b bs i k a e = by (eqb b rule-byte) (eqb b world-byte) refl refl e
@@ -174,21 +178,25 @@ Came n p bs (Err e) = Stopped n p bs e
 item-more : (n p b : ℕ) (bs : List ℕ) (i : Item) (k : ℕ) (r : Result (List Item) BookFault) → Item-read n b bs i k
     → Came (n + counts i) (p + suc k) (drop k bs) r → Came n p (b ∷ bs) (with-item i r)
 item-more n p b bs i k (Ok is) h c =
-    record { bytes = h .split ∙ ap (λ l. item-bytes i ++ l) (c .bytes)
-           ; fit = (h .fit, c .fit)
-           ; room = omega (arith, counts-more i is, c .room) }
+    record {
+      bytes = h .split ∙ ap (λ l. item-bytes i ++ l) (c .bytes);
+      fit = (h .fit, c .fit);
+      room = omega (arith, counts-more i is, c .room);
+    }
 item-more n p b bs i k (Err e) h c =
     let is = c .before in
     let long : length (item-bytes i ++ book-bytes is) ≡ length (item-bytes i) + length (book-bytes is) = length-append (item-bytes i) (book-bytes is) in
     let count : n + counts i + length (rules is) ≡ n + length (rules (i ∷ is)) = omega (arith, counts-more i is) in
     let place : p + suc k + length (book-bytes is) ≡ p + length (item-bytes i ++ book-bytes is) = omega (arith, h .size) in
-    record { before = i ∷ is
-           ; first = c .first
-           ; rest = c .rest
-           ; split = h .split ∙ ap (λ l. item-bytes i ++ l) (c .split) ∙ sym (append-assoc (item-bytes i) (book-bytes is) (c .first ∷ c .rest))
-           ; fit = (h .fit, c .fit)
-           ; room = omega (arith, c .room)
-           ; fault = ap₂ (λ m q. item m q (c .first) (c .rest)) (sym count) (sym place) ∙ c .fault }
+    record {
+      before = i ∷ is;
+      first = c .first;
+      rest = c .rest;
+      split = h .split ∙ ap (λ l. item-bytes i ++ l) (c .split) ∙ sym (append-assoc (item-bytes i) (book-bytes is) (c .first ∷ c .rest));
+      fit = (h .fit, c .fit);
+      room = omega (arith, c .room);
+      fault = ap₂ (λ m q. item m q (c .first) (c .rest)) (sym count) (sym place) ∙ c .fault;
+    }
 
 abbrev Comes : ℕ → Type 0
 Comes m = (n p : ℕ) (bs : List ℕ) → length bs ≤ m → All-bytes bs → n ≤ most-rules → Came n p bs (items-past n 0 p bs)
@@ -206,8 +214,15 @@ comes (suc m) n p (b ∷ bs) l a r = by (item n p b bs) refl (λ n p bs l a r. c
         (again (n + counts i) (p + suc k) (drop k bs) (omega (arith, length-drop k bs)) (bytes-drop k bs (a .1)) (omega (arith, h .room))))
     by (Err x) e again =
         subst (Came n p (b ∷ bs)) (sym (no-more n p b bs x e))
-        (record { before = []; first = b; rest = bs; split = refl; fit = tt; room = omega arith
-                ; fault = ap₂ (λ m q. item m q b bs) (add-zero n) (add-zero p) ∙ e })
+        (record {
+          before = [];
+          first = b;
+          rest = bs;
+          split = refl;
+          fit = tt;
+          room = omega arith;
+          fault = ap₂ (λ m q. item m q b bs) (add-zero n) (add-zero p) ∙ e;
+        })
 
 pub come : (bs : List ℕ) → All-bytes bs → Came 0 0 bs (items-past 0 0 0 bs)
 come bs a = comes (length bs) 0 0 bs (omega arith) a (omega arith)
@@ -218,14 +233,18 @@ pub books-inverse : Books-are-their-items
 books-inverse =
     inverse book book-bytes Fit-book
     (λ is f.
-        asked (leb (length (book-bytes is)) most-bytes) TooLong _ (le-leb (length (book-bytes is)) most-bytes (f .few-bytes))
-        ∙ items-read 0 0 is (f .each) (omega (arith, f .few-rules)))
+    asked (leb (length (book-bytes is)) most-bytes) TooLong _ (le-leb (length (book-bytes is)) most-bytes (f .few-bytes))
+    ∙ items-read 0 0 is (f .each) (omega (arith, f .few-rules)))
     (λ bs is a e.
-        let q1 = ask-yes (leb (length bs) most-bytes) TooLong (items-past 0 0 0 bs) is e in
-        let r : Row 0 bs is = subst (Came 0 0 bs) (q1 .1) (come bs a) in
-        (record { each = r .fit
-                ; few-rules = omega (arith, r .room)
-                ; few-bytes = omega (arith, ap length (r .bytes), leb-true (length bs) most-bytes (q1 .0)) }, r .bytes))
+    let q1 = ask-yes (leb (length bs) most-bytes) TooLong (items-past 0 0 0 bs) is e in
+    let r : Row 0 bs is = subst (Came 0 0 bs) (q1 .1) (come bs a) in (
+      record {
+        each = r .fit;
+        few-rules = omega (arith, r .room);
+        few-bytes = omega (arith, ap length (r .bytes), leb-true (length bs) most-bytes (q1 .0));
+      },
+      r .bytes,
+    ))
 
 pub stops : Faults-leave-what-is-before
 stops bs e a l h =
@@ -234,9 +253,11 @@ stops bs e a l h =
     let long = length-append (book-bytes is) (s .first ∷ s .rest) in
     let zero-rules : 0 + length (rules is) ≡ length (rules is) = omega arith in
     let zero-bytes : 0 + length (book-bytes is) ≡ length (book-bytes is) = omega arith in
-    record { before = is
-           ; first = s .first
-           ; rest = s .rest
-           ; split = s .split
-           ; alone = books-inverse .reads-back is (record { each = s .fit; few-rules = omega (arith, s .room); few-bytes = omega (arith, ap length (s .split)) })
-           ; fault = ap₂ (λ m q. item m q (s .first) (s .rest)) (sym zero-rules) (sym zero-bytes) ∙ s .fault }
+    record {
+      before = is;
+      first = s .first;
+      rest = s .rest;
+      split = s .split;
+      alone = books-inverse .reads-back is (record { each = s .fit; few-rules = omega (arith, s .room); few-bytes = omega (arith, ap length (s .split)) });
+      fault = ap₂ (λ m q. item m q (s .first) (s .rest)) (sym zero-rules) (sym zero-bytes) ∙ s .fault;
+    }

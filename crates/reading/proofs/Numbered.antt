@@ -70,19 +70,19 @@ shown-rule n p bs = by (header p bs)
   where
     by-body : (h : Header) (s : Result (List Term) RuleFault)
         → shown-first p (go (go s (InRule n) (λ ts. Ok (rule (rule-of (h .variables) ts), 4 + h .size))) (λ e. e) (λ i. Ok (Some i)))
-          ≡ seen (λ v. Some (rule-seen v)) (numbered-by n (go s (λ e. e) (λ ts. Ok (rule-shown p (rule-of (h .variables) ts)))))
+        ≡ seen (λ v. Some (rule-seen v)) (numbered-by n (go s (λ e. e) (λ ts. Ok (rule-shown p (rule-of (h .variables) ts)))))
     by-body h (Ok ts) = refl
     by-body h (Err e) = refl
 
     by-count : (h : Header) (b : Bool)
         → shown-first p (go (ask b (TooManyRules p n) (go (body (rule-due h) p h) (InRule n) (λ ts. Ok (rule (rule-of (h .variables) ts), 4 + h .size)))) (λ e. e) (λ i. Ok (Some i)))
-          ≡ seen (λ v. Some (rule-seen v)) (ask b (TooManyRules p n) (numbered-by n (rule-under p h)))
+        ≡ seen (λ v. Some (rule-seen v)) (ask b (TooManyRules p n) (numbered-by n (rule-under p h)))
     by-count h true = by-body h (body (rule-due h) p h)
     by-count h false = refl
 
     by : (s : Result Header CommandFault)
         → shown-first p (go (go s (λ e. InRule n (Command e)) (λ h. ask (ltb n most-rules) (TooManyRules p n) (go (body (rule-due h) p h) (InRule n) (λ ts. Ok (rule (rule-of (h .variables) ts), 4 + h .size))))) (λ e. e) (λ i. Ok (Some i)))
-          ≡ seen (λ v. Some (rule-seen v)) (go (numbered-by n (go s Command (λ h. Ok h))) (λ e. e) (λ h. ask (ltb n most-rules) (TooManyRules p n) (numbered-by n (rule-under p h))))
+        ≡ seen (λ v. Some (rule-seen v)) (go (numbered-by n (go s Command (λ h. Ok h))) (λ e. e) (λ h. ask (ltb n most-rules) (TooManyRules p n) (numbered-by n (rule-under p h))))
     by (Ok h) = by-count h (ltb n most-rules)
     by (Err e) = refl
 

@@ -116,23 +116,25 @@ module _ (v m n p : ℕ) (frame : List ℕ) where
       let bytes : All-bytes ds = subst All-bytes (sym (went .front)) (bytes-drop (q - p) frame all) in
       let y : Encoded Rules v q ds (b .ts) (end r) = subst (Encodes Rules v q ds) (b .is) (encoded Rules v n q ds bytes) in
       let to : q ≡ p + length (encodings Rules (a .ts)) =
-          sym (place-first Rules q ds) ∙ ap place-of (x .after) ∙ place-first Rules (p + length (encodings Rules (a .ts))) (x .rest) in
+      sym (place-first Rules q ds) ∙ ap place-of (x .after) ∙ place-first Rules (p + length (encodings Rules (a .ts))) (x .rest) in
       let long : length (encodings Rules (a .ts)) ≡ q - p = omega arith in
       let head-count : length (a .ts) ≡ m = subst (Counted m) (a .is) (counted v m (commands Rules p frame)) in
       let goal-count : length (b .ts) ≡ n = subst (Counted n) (b .is) (counted v n (commands Rules q ds)) in
-      record { ts = a .ts ++ b .ts
-             ; read = at-end (commands Rules q ds) first (end r) second
-             ; count = length-append (a .ts) (b .ts) ∙ ap₂ (λ i j. i + j) head-count goal-count
-             ; head =
-                 ap (take (q - p)) (x .split)
-                 ∙ take-at (encodings Rules (a .ts)) (x .rest) (q - p) long
-                 ∙ ap (encodings Rules) (sym (take-at (a .ts) (b .ts) m head-count))
-             ; goals =
-                 sym (went .front)
-                 ∙ y .split
-                 ∙ ap (λ l. encodings Rules (b .ts) ++ l) (none-left Rules (q + length (encodings Rules (b .ts))) r (y .rest) (sym (y .after)))
-                 ∙ append-nil (encodings Rules (b .ts))
-                 ∙ ap (encodings Rules) (sym (drop-at (a .ts) (b .ts) m head-count)) }
+      record {
+        ts = a .ts ++ b .ts;
+        read = at-end (commands Rules q ds) first (end r) second;
+        count = length-append (a .ts) (b .ts) ∙ ap₂ (λ i j. i + j) head-count goal-count;
+        head =
+            ap (take (q - p)) (x .split)
+            ∙ take-at (encodings Rules (a .ts)) (x .rest) (q - p) long
+            ∙ ap (encodings Rules) (sym (take-at (a .ts) (b .ts) m head-count));
+        goals =
+            sym (went .front)
+            ∙ y .split
+            ∙ ap (λ l. encodings Rules (b .ts) ++ l) (none-left Rules (q + length (encodings Rules (b .ts))) r (y .rest) (sym (y .after)))
+            ∙ append-nil (encodings Rules (b .ts))
+            ∙ ap (encodings Rules) (sym (drop-at (a .ts) (b .ts) m head-count));
+      }
 
 -- ── for the code ──
 

@@ -41,8 +41,10 @@ says f p (b ∷ bs) = by (command f p b bs) refl
     by : (r : Result Command CommandFault) → command f p b bs ≡ r → Says f p (b ∷ bs) (go r (λ e. e) (λ c. Ok (Some c)))
     by (Ok c) e =
         let longer : suc (operands f c) ≡ size f c = omega arith in
-        record { is = one-more f p b bs c e ∙ ap (λ n. next p c (commands f (p + size f c) (drop n (b ∷ bs)))) longer
-               ; inside = omega (arith, has-operands (front f p b bs c e)) }
+        record {
+          is = one-more f p b bs c e ∙ ap (λ n. next p c (commands f (p + size f c) (drop n (b ∷ bs)))) longer;
+          inside = omega (arith, has-operands (front f p b bs c e));
+        }
     by (Err x) e = no-more f p b bs x e
 
 pub at-front : (f : Form) (p : ℕ) (bs : List ℕ) (r : Result (Option Command) CommandFault) → r ≡ first-command f p bs → Says f p bs r
@@ -57,9 +59,11 @@ pub record Took (f : Form) (p : ℕ) (bs : List ℕ) (c : Command) (q : ℕ) (cs
 pub took : (f : Form) (p : ℕ) (bs : List ℕ) (o : Option Command) (c : Command) (q : ℕ) (cs : List ℕ) → o ≡ Some c
     → Ok o ≡ first-command f p bs → cs ≡ drop (taken-size f (Ok o)) bs → q ≡ p + taken-size f (Ok o) → Took f p bs c q cs
 took f p bs o c q cs e v b k =
-    record { front = at-front f p bs (Ok (Some c)) (ap Ok (sym e) ∙ v)
-           ; place = k ∙ ap (λ x. p + taken-size f (Ok x)) e
-           ; bytes = b ∙ ap (λ x. drop (taken-size f (Ok x)) bs) e }
+    record {
+      front = at-front f p bs (Ok (Some c)) (ap Ok (sym e) ∙ v);
+      place = k ∙ ap (λ x. p + taken-size f (Ok x)) e;
+      bytes = b ∙ ap (λ x. drop (taken-size f (Ok x)) bs) e;
+    }
 
 pub fewer : {f : Form} {p : ℕ} {bs : List ℕ} {c : Command} {q : ℕ} {cs : List ℕ} → Took f p bs c q cs → length cs < length bs
 fewer {f} {p} {bs} {c} t = omega (arith, ap length (t .bytes), length-drop (size f c) bs, t .front .inside)
@@ -107,18 +111,22 @@ pub record Sofar (f : Form) (v due p : ℕ) (bs : List ℕ) (n q : ℕ) (cs : Li
 pub begins : (f : Form) (v due p : ℕ) (bs : List ℕ) → Sofar f v due p bs due p bs
 begins f v due p bs =
     let none : 0 ≡ p - p = omega arith in
-    record { same = refl
-           ; went = record { onward = omega arith; within = omega arith; front = ap (λ k. drop k bs) none }
-           ; room = omega arith }
+    record {
+      same = refl;
+      went = record { onward = omega arith; within = omega arith; front = ap (λ k. drop k bs) none };
+      room = omega arith;
+    }
 
 pub farther : (p : ℕ) (bs : List ℕ) (q : ℕ) (cs : List ℕ) (k r : ℕ) (ds : List ℕ) → Went p bs q cs → k ≤ length cs → ds ≡ drop k cs → r ≡ q + k → Went p bs r ds
 farther p bs q cs k r ds w i d e =
     let on = w .onward in
     let l : length cs ≡ length bs - (q - p) = ap length (w .front) ∙ length-drop (q - p) bs in
     let to = w .within in
-    record { onward = omega arith
-           ; within = omega arith
-           ; front = d ∙ ap (drop k) (w .front) ∙ drop-drop k (q - p) bs ∙ ap (λ n. drop n bs) (omega arith) }
+    record {
+      onward = omega arith;
+      within = omega arith;
+      front = d ∙ ap (drop k) (w .front) ∙ drop-drop k (q - p) bs ∙ ap (λ n. drop n bs) (omega arith);
+    }
 
 module _ {f : Form} {v due p : ℕ} {bs : List ℕ} {n q : ℕ} {cs : List ℕ} (s : Sofar f v due p bs n q cs) (some : 0 < n) where
   one-due : n ≡ suc (n - 1)
@@ -129,16 +137,18 @@ module _ {f : Form} {v due p : ℕ} {bs : List ℕ} {n q : ℕ} {cs : List ℕ} 
 
   pub goes-on : (c : Command) (m r : ℕ) (ds : List ℕ) → Took f q cs c r ds → Declared v c → m ≡ then-due (n - 1) c → Sofar f v due p bs m r ds
   goes-on c m r ds h d e =
-      record { same =
-                 ap (λ k. left (terms v k (commands f r ds))) e
-                 ∙ ap (λ k. left (terms v (then-due (n - 1) c) (commands f k ds))) (h .place)
-                 ∙ ap (λ l. left (terms v (then-due (n - 1) c) (commands f (q + size f c) l))) (h .bytes)
-                 ∙ sym (left-next v (n - 1) q c (commands f (q + size f c) (drop (size f c) cs)) d)
-                 ∙ ap (λ x. left (terms v (suc (n - 1)) x)) (sym (h .front .is))
-                 ∙ ap (λ k. left (terms v k (commands f q cs))) (sym one-due)
-                 ∙ s .same
-             ; went = reaches c r ds h
-             ; room = omega (arith, due-most (n - 1) c, fewer h, s .room) }
+      record {
+        same =
+            ap (λ k. left (terms v k (commands f r ds))) e
+            ∙ ap (λ k. left (terms v (then-due (n - 1) c) (commands f k ds))) (h .place)
+            ∙ ap (λ l. left (terms v (then-due (n - 1) c) (commands f (q + size f c) l))) (h .bytes)
+            ∙ sym (left-next v (n - 1) q c (commands f (q + size f c) (drop (size f c) cs)) d)
+            ∙ ap (λ x. left (terms v (suc (n - 1)) x)) (sym (h .front .is))
+            ∙ ap (λ k. left (terms v k (commands f q cs))) (sym one-due)
+            ∙ s .same;
+        went = reaches c r ds h;
+        room = omega (arith, due-most (n - 1) c, fewer h, s .room);
+      }
 
   pub finds : (x : RuleFault) (t : Commands) → commands f q cs ≡ t → left (terms v (suc (n - 1)) t) ≡ Err x → left (terms v due (commands f p bs)) ≡ Err x
   finds x t e h = sym (s .same) ∙ ap (λ k. left (terms v k (commands f q cs))) one-due ∙ ap (λ y. left (terms v (suc (n - 1)) y)) e ∙ h

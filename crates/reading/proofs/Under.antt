@@ -44,11 +44,13 @@ module _ (v m n p : ℕ) (bs : List ℕ) where
           → Ok (head, goals) ≡ go r (λ e. e) (parts-of m) → From v m n p bs head goals
       by (Ok ts) k e =
           let same : _≡_ {A = List ℕ × List ℕ} (head, goals) (encodings Rules (take m ts), encodings Rules (drop m ts)) = cc in
-          record { ts = ts
-                 ; read = k
-                 ; count = used-counted (m + n) (terms v (m + n) (commands Rules p bs)) ts (counted v (m + n) (commands Rules p bs)) k
-                 ; first = ap (λ x. x .0) same
-                 ; others = ap (λ x. x .1) same }
+          record {
+            ts = ts;
+            read = k;
+            count = used-counted (m + n) (terms v (m + n) (commands Rules p bs)) ts (counted v (m + n) (commands Rules p bs)) k;
+            first = ap (λ x. x .0) same;
+            others = ap (λ x. x .1) same;
+          }
       by (Err x) k e = let z : _≡_ {A = ℕ} 0 1 = cc in absurd (omega arith)
 
   found : (e : RuleFault) → Err e ≡ parts-read v m n p bs → used-up (terms v (m + n) (commands Rules p bs)) ≡ Err e
@@ -80,7 +82,7 @@ module _ (p : ℕ) (h : Header) (bs : List ℕ) (e : Ok bs ≡ frame-bytes p h) 
   rule-refused f r x y i j k =
       ap (seen f) (i ∙ ap Err j)
       ∙ ap (λ s. go s (λ e. e) (λ ts. Ok (rule-shown p (rule-of (h .variables) ts))))
-        (sym (under 1 (rule-due h) (one-more (h .goals)) ∙ found (h .variables) 1 (h .goals) (p + header-size) bs y k))
+      (sym (under 1 (rule-due h) (one-more (h .goals)) ∙ found (h .variables) 1 (h .goals) (p + header-size) bs y k))
 
   pub rule-read : (head goals : List ℕ) → Ok (head, goals) ≡ parts-read (h .variables) 1 (h .goals) (p + header-size) bs → Ok (made-rule p h head goals) ≡ rule-under p h
   rule-read head goals k =
@@ -103,7 +105,7 @@ module _ (h : Header) (bs : List ℕ) (e : Ok bs ≡ frame-bytes 0 h) where
   query-refused f r x y i j k =
       ap (seen f) (i ∙ ap Err j)
       ∙ ap (λ s. go s (λ e. e) (λ ts. Ok (query-shown (query-of (h .variables) ts))))
-        (sym (under 0 h bs e 0 (query-due h) (none-more (h .goals)) ∙ found (h .variables) 0 (h .goals) header-size bs y k))
+      (sym (under 0 h bs e 0 (query-due h) (none-more (h .goals)) ∙ found (h .variables) 0 (h .goals) header-size bs y k))
 
   pub query-read : (head goals : List ℕ) → Ok (head, goals) ≡ parts-read (h .variables) 0 (h .goals) header-size bs
       → Ok (record { variables = h .variables; goals = h .goals; body = goals; body-place = header-size }) ≡ query-under h

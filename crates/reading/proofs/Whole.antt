@@ -44,11 +44,12 @@ goes n p (b ∷ bs) = by (item n p b bs) refl
     by : (r : Result (Item × ℕ) BookFault) → item n p b bs ≡ r → Goes n p (b ∷ bs) (go r (λ e. e) (λ i. Ok (Some i)))
     by (Ok (i, k)) e =
         let inside = item-inside n p b bs i k e in
-        let longer : suc k ≡ 1 + k = omega arith in
-        ( ap (seen (λ is. n + rule-count is)) (one-more n p b bs i k inside e)
-          ∙ count-more n i (items-past (n + counts i) 0 (p + suc k) (drop k bs))
-          ∙ ap (λ m. seen (λ is. n + counts i + rule-count is) (items-past (n + counts i) 0 (p + m) (drop m (b ∷ bs)))) longer
-        , omega arith )
+        let longer : suc k ≡ 1 + k = omega arith in (
+          ap (seen (λ is. n + rule-count is)) (one-more n p b bs i k inside e)
+              ∙ count-more n i (items-past (n + counts i) 0 (p + suc k) (drop k bs))
+              ∙ ap (λ m. seen (λ is. n + counts i + rule-count is) (items-past (n + counts i) 0 (p + m) (drop m (b ∷ bs)))) longer,
+          omega arith,
+        )
     by (Err x) e = no-more n p b bs x e
 
 -- a result of `item`, and what it says of the rest
@@ -61,11 +62,12 @@ follows : (b : Book-view) → Follows b (shown-first (b .place) (next-of b))
 follows b = by (next-of b) refl (goes (b .rules) (b .place) (drop (b .place) (b .bytes)))
   where
     by : (r : Result (Option (Item × ℕ)) BookFault) → next-of b ≡ r → Goes (b .rules) (b .place) (drop (b .place) (b .bytes)) r → Follows b (shown-first (b .place) r)
-    by (Ok (Some i)) e g =
-        ( ap (λ r. rest-count (record { bytes = b .bytes; place = b .place + passed r; rules = b .rules + counted r })) e
+    by (Ok (Some i)) e g = (
+      ap (λ r. rest-count (record { bytes = b .bytes; place = b .place + passed r; rules = b .rules + counted r })) e
           ∙ ap (λ l. seen (λ is. b .rules + counts (i .0) + rule-count is) (items-past (b .rules + counts (i .0)) 0 (b .place + (1 + i .1)) l)) (sym (drop-drop (1 + i .1) (b .place) (b .bytes)))
-          ∙ sym (g .0)
-        , omega (arith, ap (λ r. b .place + passed r) e, g .1, length-drop (b .place) (b .bytes)) )
+          ∙ sym (g .0),
+      omega (arith, ap (λ r. b .place + passed r) e, g .1, length-drop (b .place) (b .bytes)),
+    )
     by (Ok None) e g = ap (λ l. seen (λ is. b .rules + rule-count is) (items-past (b .rules) 0 (b .place) l)) g ∙ ap Ok (let same : b .rules + 0 ≡ b .rules = omega arith in same)
     by (Err x) e g = ap (seen (λ is. b .rules + rule-count is)) g
 

@@ -52,9 +52,15 @@ rule-view r =
 
 abbrev pub rule-shown : ℕ → Rule → Rule-view
 rule-shown p r =
-    record { place = p; variables = r .variables; goals = length (r .goals)
-           ; head = encoding Rules (r .head); head-place = p + header-size
-           ; body = encodings Rules (r .goals); body-place = p + header-size + length (encoding Rules (r .head)) }
+    record {
+      place = p;
+      variables = r .variables;
+      goals = length (r .goals);
+      head = encoding Rules (r .head);
+      head-place = p + header-size;
+      body = encodings Rules (r .goals);
+      body-place = p + header-size + length (encoding Rules (r .head));
+    }
 
 pub record Query-view : Type 0 where
   pub variables : ℕ

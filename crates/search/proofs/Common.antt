@@ -51,14 +51,14 @@ pub record Settled (text : List ℕ) (c : Cells) (r : Head) (g : TermAt) (c′ :
 module _ {text : List ℕ} {c : Cells} {r : Head} {g : TermAt} {c′ : Cells} {q : Bool} where
   taken-settles : Ready text c r g → (o : Option Substitution) → Outcome text c (r .variables) c′ o q → q ≡ true
       → (c′ .used ≡ c .used + r .variables) × Sound text (c′ .used) (c′ .table) (c′ .newest) × Term-in text (c′ .used) g
-        × (instance-by o (goal-term text c g) ≡ some (goal-term text c′ g))
+      × (instance-by o (goal-term text c g) ≡ some (goal-term text c′ g))
   taken-settles ready none e y = absurd (true-not-false (sym y ∙ e .0))
   taken-settles ready (some σ) e y =
-      let t = e .1 in
-      ( t .used
-      , subst (λ (n : ℕ). Sound text n (c′ .table) (c′ .newest)) (sym (t .used)) (t .applied .sound)
-      , stands-more (omega (arith, t .used)) (ready .goal)
-      , ap some (sym (t .applied .means (term text (g .place) (g .level))))
+      let t = e .1 in (
+        t .used,
+        subst (λ (n : ℕ). Sound text n (c′ .table) (c′ .newest)) (sym (t .used)) (t .applied .sound),
+        stands-more (omega (arith, t .used)) (ready .goal),
+        ap some (sym (t .applied .means (term text (g .place) (g .level)))),
       )
 
   pub settled : Ready text c r g → Tried text c r g c′ q → q ≡ true → Settled text c r g c′
@@ -78,7 +78,7 @@ module _ {text text′ : List ℕ} {n n′ : ℕ} (t : text′ ≡ text) (u : n�
   pub sound-as : {cs cs′ : List Cell} {h h′ : ℕ} → cs′ ≡ cs → h′ ≡ h → Sound text n cs h → Sound text′ n′ cs′ h′
   sound-as {cs} {cs′} {h} {h′} d k s =
       subst (λ (x : List ℕ). Sound x n′ cs′ h′) (sym t)
-        (subst (λ (x : ℕ). Sound text x cs′ h′) (sym u) (subst (λ (x : List Cell). Sound text n x h′) (sym d) (subst (λ (x : ℕ). Sound text n cs x) (sym k) s)))
+      (subst (λ (x : ℕ). Sound text x cs′ h′) (sym u) (subst (λ (x : List Cell). Sound text n x h′) (sym d) (subst (λ (x : ℕ). Sound text n cs x) (sym k) s)))
 
   pub term-as : (g : TermAt) → Term-in text n g → Term-in text′ n′ g
   term-as g s = subst (λ (x : List ℕ). Term-in x n′ g) (sym t) (subst (λ (x : ℕ). Term-in text x g) (sym u) s)
@@ -91,10 +91,10 @@ meaning-as {text} {text′} {cs} {cs′} {h} {h′} g t d k =
 
 pub loaded : (goal head text : List ℕ) → length goal + length head ≤ length text
     → Holds (laid (length goal) head (laid 0 goal text)) 0 goal × Holds (laid (length goal) head (laid 0 goal text)) (length goal) head
-loaded goal head text l =
-    ( holds-before (length goal) 0 head goal (laid 0 goal text) (omega arith) (laid-holds 0 goal text (omega (arith, l)))
-    , laid-holds (length goal) head (laid 0 goal text) (omega (arith, l, laid-length 0 goal text))
-    )
+loaded goal head text l = (
+  holds-before (length goal) 0 head goal (laid 0 goal text) (omega arith) (laid-holds 0 goal text (omega (arith, l))),
+  laid-holds (length goal) head (laid 0 goal text) (omega (arith, l, laid-length 0 goal text)),
+)
 
 shifted-zero : (t : Term) → shifted 0 t ≡ t
 shifted-zero (var x) = ap var (omega arith)
@@ -124,15 +124,15 @@ fact bs v all e = by (rule bs) refl e
     by (Ok a) is e =
         let w = rules-inverse .only-encodings bs a all is .0 in
         let same : v ≡ rule-shown 0 a = cc in
-        record
-          { is = a
-          ; reads = is
-          ; head = ap (λ (x : Rule-view). x .head) same
-          ; variables = ap (λ (x : Rule-view). x .variables) same
-          ; fits = w .declared .0
-          ; few = w .few-variables
-          ; short = omega (arith, w .short, length-append (encoding Rules (a .head)) (encodings Rules (a .goals)), ap (λ (x : Rule-view). length (x .head)) same)
-          }
+        record {
+          is = a;
+          reads = is;
+          head = ap (λ (x : Rule-view). x .head) same;
+          variables = ap (λ (x : Rule-view). x .variables) same;
+          fits = w .declared .0;
+          few = w .few-variables;
+          short = omega (arith, w .short, length-append (encoding Rules (a .head)) (encodings Rules (a .goals)), ap (λ (x : Rule-view). length (x .head)) same);
+        }
     by (Err x) is e = let z : _≡_ {A = ℕ} 0 1 = cc in absurd (omega arith)
 
 -- ── the two together ──
@@ -145,14 +145,14 @@ module _ (text : List ℕ) (c : Cells) (a b : Rule) (r : Head) (g : TermAt)
     (head-fits : Fits (a .variables) (a .head)) (goal-fits : Fits (b .variables) (b .head)) (few-head : a .variables ≤ 64) (few-goal : b .variables ≤ 64) where
   pub facts-ready : Ready text c r g
   facts-ready =
-      record
-        { ordered = subst (λ (h : ℕ). Sound text (c .used) (c .table) h) (sym newest) (free-sound text (c .used) (c .table) (omega (arith, size)) (omega (arith, used, few-goal, many)) (omega (arith, many)) free)
-        ; head = subst (λ (v : ℕ). Declares text v (r .place)) (sym variables) (encoding-declares text (a .variables) (r .place) (a .head) head head-fits)
-        ; goal =
+      record {
+        ordered = subst (λ (h : ℕ). Sound text (c .used) (c .table) h) (sym newest) (free-sound text (c .used) (c .table) (omega (arith, size)) (omega (arith, used, few-goal, many)) (omega (arith, many)) free);
+        head = subst (λ (v : ℕ). Declares text v (r .place)) (sym variables) (encoding-declares text (a .variables) (r .place) (a .head) head head-fits);
+        goal =
             subst (λ (p : ℕ). Stands text (c .used) p (g .level)) (sym place)
-              (subst (λ (l : ℕ). Stands text (c .used) 0 l) (sym level) (declares-stands 0 (c .used) (omega (arith, used)) (encoding-declares text (b .variables) 0 (b .head) goal goal-fits)))
-        ; room = omega (arith, used, variables, few-head, few-goal)
-        }
+            (subst (λ (l : ℕ). Stands text (c .used) 0 l) (sym level) (declares-stands 0 (c .used) (omega (arith, used)) (encoding-declares text (b .variables) 0 (b .head) goal goal-fits)));
+        room = omega (arith, used, variables, few-head, few-goal);
+      }
 
   goal-is : goal-term text c g ≡ b .head
   goal-is =
@@ -180,13 +180,13 @@ module _ {left right : List ℕ} {v w : Rule-view} (a : Fact left v) (b : Fact r
   pub both-ready : Ready text c (record { place = length (w .head); variables = v .variables }) (record { place = 0; level = 0 })
   both-ready =
       facts-ready text c (a .is) (b .is) (record { place = length (w .head); variables = v .variables }) (record { place = 0; level = 0 }) goal-holds head-holds
-        size many free (used ∙ b .variables) newest (a .variables) refl refl (a .fits) (b .fits) (a .few) (b .few)
+      size many free (used ∙ b .variables) newest (a .variables) refl refl (a .fits) (b .fits) (a .few) (b .few)
 
   pub both-common : instance-by (found text c (record { place = length (w .head); variables = v .variables }) (record { place = 0; level = 0 })) (goal-term text c (record { place = 0; level = 0 }))
       ≡ common (a .is) (b .is)
   both-common =
       facts-common text c (a .is) (b .is) (record { place = length (w .head); variables = v .variables }) (record { place = 0; level = 0 }) goal-holds head-holds
-        size many free (used ∙ b .variables) newest (a .variables) refl refl (a .fits) (b .fits) (a .few) (b .few)
+      size many free (used ∙ b .variables) newest (a .variables) refl refl (a .fits) (b .fits) (a .few) (b .few)
 
   pub both-few : c .used + v .variables ≤ 256
   both-few = omega (arith, used, b .variables, b .few, a .variables, a .few)

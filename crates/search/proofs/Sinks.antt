@@ -32,17 +32,17 @@ pub one-put : (s u : Sink) (b : ℕ) → u .count ≡ s .count → u .writing �
     → now (u .buffer) ≡ cond (s .writing) (set (now (s .buffer)) (s .count) b) (now (s .buffer))
     → s .count < length (now (s .buffer)) → Puts s (counted u) (b ∷ []) true
 one-put s u b c w n e h =
-    record
-      { writing = w
-      ; same = n
-      ; many = ap length e ∙ set-many (s .writing) (s .count) b (now (s .buffer))
-      ; says =
-          record
-            { fits = omega (arith, h)
-            ; count = omega (arith, c)
-            ; buffer = e ∙ ap (λ (l : List ℕ). cond (s .writing) l (now (s .buffer))) (sym (laid-one (s .count) b (now (s .buffer))))
-            }
-      }
+    record {
+      writing = w;
+      same = n;
+      many = ap length e ∙ set-many (s .writing) (s .count) b (now (s .buffer));
+      says =
+          record {
+            fits = omega (arith, h);
+            count = omega (arith, c);
+            buffer = e ∙ ap (λ (l : List ℕ). cond (s .writing) l (now (s .buffer))) (sym (laid-one (s .count) b (now (s .buffer))));
+          };
+    }
 
 -- ── one after the other ──
 
@@ -55,35 +55,35 @@ module _ {s u : Sink} {cs : List ℕ} where
   in-then : {w : Sink} {bs : List ℕ} (r : Bool) → Puts s u cs true → Puts u w bs r → Puts s w (cs ++ bs) r
   in-then {w} {bs} true e f =
       let l = length-append cs bs in
-      record
-        { writing = f .writing ∙ e .writing
-        ; same = f .same ∙ e .same
-        ; many = f .many ∙ e .many
-        ; says =
-            record
-              { fits = omega (arith, e .says .fits, f .says .fits, e .says .count, e .many, l)
-              ; count = omega (arith, f .says .count, e .says .count, l)
-              ; buffer =
+      record {
+        writing = f .writing ∙ e .writing;
+        same = f .same ∙ e .same;
+        many = f .many ∙ e .many;
+        says =
+            record {
+              fits = omega (arith, e .says .fits, f .says .fits, e .says .count, e .many, l);
+              count = omega (arith, f .says .count, e .says .count, l);
+              buffer =
                   f .says .buffer
                   ∙ ap (λ (b : Bool). cond b (laid (u .count) bs (now (u .buffer))) (now (u .buffer))) (e .writing)
-                  ∙ buffers (s .writing) (s .count) (u .count) cs bs (now (s .buffer)) (now (u .buffer)) (e .says .count) (e .says .buffer)
-              }
-        }
+                  ∙ buffers (s .writing) (s .count) (u .count) cs bs (now (s .buffer)) (now (u .buffer)) (e .says .count) (e .says .buffer);
+            };
+      }
   in-then {w} {bs} false e f =
       let l = length-append cs bs in
-      record
-        { writing = f .writing ∙ e .writing
-        ; same = f .same ∙ e .same
-        ; many = f .many ∙ e .many
-        ; says =
-            record
-              { over = omega (arith, f .says .over, e .says .count, e .many, l)
-              ; buffer = λ counts.
+      record {
+        writing = f .writing ∙ e .writing;
+        same = f .same ∙ e .same;
+        many = f .many ∙ e .many;
+        says =
+            record {
+              over = omega (arith, f .says .over, e .says .count, e .many, l);
+              buffer = λ counts.
                   f .says .buffer (e .writing ∙ counts)
                   ∙ e .says .buffer
-                  ∙ ap (λ (b : Bool). cond b (laid (s .count) cs (now (s .buffer))) (now (s .buffer))) counts
-              }
-        }
+                  ∙ ap (λ (b : Bool). cond b (laid (s .count) cs (now (s .buffer))) (now (s .buffer))) counts;
+            };
+      }
 
   -- Bytes that are in, and then others.
   pub puts-then : {w : Sink} {bs : List ℕ} {q r : Bool} → Puts s u cs q → q ≡ true → Puts u w bs r → Puts s w (cs ++ bs) r
@@ -94,12 +94,12 @@ module _ {s u : Sink} {cs : List ℕ} where
   puts-over {q} bs d y =
       let e : Puts s u cs false = subst (λ (b : Bool). Puts s u cs b) y d in
       let l = length-append cs bs in
-      record
-        { writing = e .writing
-        ; same = e .same
-        ; many = e .many
-        ; says = record { over = omega (arith, e .says .over, l); buffer = e .says .buffer }
-        }
+      record {
+        writing = e .writing;
+        same = e .same;
+        many = e .many;
+        says = record { over = omega (arith, e .says .over, l); buffer = e .says .buffer };
+      }
 
 -- ── the bytes of a term ──
 

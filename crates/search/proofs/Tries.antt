@@ -42,7 +42,7 @@ module _ {text : List ℕ} {c : Cells} {r : Head} {g : TermAt} (ready : Ready te
   abbrev Joins : List Cell → ℕ → Bool → Type 0
   Joins cells k q =
       Ends text (c .used + r .variables) (c .table) (c .newest) cells k
-        (unify (meaning-at text (c .table) (c .newest) (record { place = r .place; level = c .used })) (goal-term text c g)) q
+      (unify (meaning-at text (c .table) (c .newest) (record { place = r .place; level = c .used })) (goal-term text c g)) q
 
   module _ {cells : List Cell} {k : ℕ} {q : Bool} where
     no-outcome : (o : Option Substitution) → Ends text (c .used + r .variables) (c .table) (c .newest) cells k o q → q ≡ false
@@ -54,15 +54,15 @@ module _ {text : List ℕ} {c : Cells} {r : Head} {g : TermAt} (ready : Ready te
         → ((was : List Cell) (m : ℕ) → Since was m (c .table) (c .newest) → Since was m cells k)
         → Outcome text c (r .variables) (record { table = cells; used = c .used + r .variables; newest = k }) o true
     yes-outcome none e y s = absurd (true-not-false (sym y ∙ e .says))
-    yes-outcome (some σ) e y s =
-        ( refl
-        , record
-            { used = refl
-            ; applied = e .says .1
-            ; terms = presents-stepped (ready .ordered) σ (r .variables) (trail text cells k) (e .says .1 .means)
-            ; since = s
-            }
-        )
+    yes-outcome (some σ) e y s = (
+      refl,
+      record {
+        used = refl;
+        applied = e .says .1;
+        terms = presents-stepped (ready .ordered) σ (r .variables) (trail text cells k) (e .says .1 .means);
+        since = s;
+      },
+    )
 
     pub tried-no : Joins cells k q → q ≡ false → (c′ : Cells) → c′ ≡ c → Tried text c r g c′ false
     tried-no e y c′ s = record { outcome = subst (λ (o : Option Substitution). Outcome text c (r .variables) c′ o false) head-found (no-outcome _ e y c′ s) }
@@ -70,8 +70,8 @@ module _ {text : List ℕ} {c : Cells} {r : Head} {g : TermAt} (ready : Ready te
     pub tried-yes : Joins cells k q → q ≡ true → ((was : List Cell) (m : ℕ) → Since was m (c .table) (c .newest) → Since was m cells k)
         → Tried text c r g (record { table = cells; used = c .used + r .variables; newest = k }) true
     tried-yes e y s =
-        record
-          { outcome =
+        record {
+          outcome =
               subst (λ (o : Option Substitution). Outcome text c (r .variables) (record { table = cells; used = c .used + r .variables; newest = k }) o true)
-                head-found (yes-outcome _ e y s)
-          }
+              head-found (yes-outcome _ e y s);
+        }

@@ -22,14 +22,14 @@ only-nothing g = record { used = refl; mark = refl; keep = refl; same = refl; ma
 
 pub only-then : {g h k : Guard} → Only-bound g h → Only-bound h k → Only-bound g k
 only-then {g} {h} {k} a b =
-    record
-      { used = b .used ∙ a .used
-      ; mark = b .mark ∙ a .mark
-      ; keep = b .keep ∙ a .keep
-      ; same = b .same ∙ a .same
-      ; many = b .many ∙ a .many
-      ; since = λ was m s. b .since was m (a .since was m s)
-      }
+    record {
+      used = b .used ∙ a .used;
+      mark = b .mark ∙ a .mark;
+      keep = b .keep ∙ a .keep;
+      same = b .same ∙ a .same;
+      many = b .many ∙ a .many;
+      since = λ was m s. b .since was m (a .since was m s);
+    }
 
 -- unification of two terms under the guard g, where it leaves these cells and says r
 abbrev pub Ends-from : List ℕ → ℕ → Guard → TermAt → TermAt → List Cell → ℕ → Bool → Type 0
@@ -60,15 +60,15 @@ module _ {text : List ℕ} {g k w : Guard} {a b s t f r o p : TermAt} {q : Bool}
 
   pub goes-on : Goes text g w a b r p
   goes-on =
-      record
-        { only = only-then (goes .only) only
-        ; sound = subst (λ (n : ℕ). Sound text n (now (w .cells)) (w .newest)) (sym (only .used)) (first-sound _ e y)
-        ; left = subst (λ (n : ℕ). Term-in text n r) (sym (only .used)) (l .stands)
-        ; right = subst (λ (n : ℕ). Term-in text n p) (sym (only .used)) (m .stands)
-        ; weighs = let z = turn-less in omega (arith, goes .weighs)
-        ; leads = λ cells j x d.
+      record {
+        only = only-then (goes .only) only;
+        sound = subst (λ (n : ℕ). Sound text n (now (w .cells)) (w .newest)) (sym (only .used)) (first-sound _ e y);
+        left = subst (λ (n : ℕ). Term-in text n r) (sym (only .used)) (l .stands);
+        right = subst (λ (n : ℕ). Term-in text n p) (sym (only .used)) (m .stands);
+        weighs = let z = turn-less in omega (arith, goes .weighs);
+        leads = λ cells j x d.
             goes .leads cells j x
-              (case-pairs _ _ _ _ _ _ (l .is) (m .is)
-                (both-ends _ (term text (r .place) (r .level)) (term text (p .place) (p .level)) e y
-                  (subst (λ (n : ℕ). Ends-from text n w r p cells j x) (only .used) d)))
-        }
+            (case-pairs _ _ _ _ _ _ (l .is) (m .is)
+            (both-ends _ (term text (r .place) (r .level)) (term text (p .place) (p .level)) e y
+            (subst (λ (n : ℕ). Ends-from text n w r p cells j x) (only .used) d)));
+      }

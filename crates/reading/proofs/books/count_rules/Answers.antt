@@ -13,7 +13,7 @@ loop-holds c = starts (c .args .bytes .now) (book-view (c .in-Continue-book .boo
 
 at-item : (c : In-Some)
     → (rest-count (book-view (c .item .last .self)) ≡ rest-count (book-view (c .loop .book)))
-      × (length (c .item .last .self .bytes .now) - c .item .last .self .place < length (c .loop .book .bytes .now) - c .loop .book .place)
+    × (length (c .item .last .self .bytes .now) - c .item .last .self .place < length (c .loop .book .bytes .now) - c .loop .book .place)
 at-item c =
     let h = c .in-Continue-item .ensures tt in
     goes-on (book-view (c .loop .book)) (book-view (c .item .last .self)) (item-view (c .in-Some .field-0))

@@ -20,5 +20,7 @@ size-size-requires c κs =
 pub returns : need.returns
 returns c =
     let f = at-item (need.at·returns c .In-Some) in
-    record { value = sized (c .args .rules) (c .args .place) (c .args .bytes .now) _ _ f (c .size-size .ensures)
-           ; inside = (omega (arith, c .size-size .ensures, f .size, f .inside), f .room) }
+    record {
+      value = sized (c .args .rules) (c .args .place) (c .args .bytes .now) _ _ f (c .size-size .ensures);
+      inside = (omega (arith, c .size-size .ensures, f .size, f .inside), f .room);
+    }

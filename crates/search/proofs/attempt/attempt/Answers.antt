@@ -16,7 +16,7 @@ pub returns-then-not-join : need.returns-then-not-join
 returns-then-not-join c =
     let no-join = c .if-not-join .taken in
     tried-no (c .pre) (c .join .ensures .ends) no-join _
-      (ap₂ (λ (t : List Cell) (k : ℕ). record { table = t; used = c .args .cells .now .used; newest = k }) (c .join .ensures .cells no-join) (c .join .ensures .newest no-join))
+    (ap₂ (λ (t : List Cell) (k : ℕ). record { table = t; used = c .args .cells .now .used; newest = k }) (c .join .ensures .cells no-join) (c .join .ensures .newest no-join))
 
 pub returns : need.returns
 returns c = tried-yes (c .pre) (c .join .ensures .ends) (c .if-not-join .left) (c .join .ensures .since (c .if-not-join .left))

@@ -19,11 +19,11 @@ loop-at-less c =
     bound-count-less (c .loop-at .cells) (c .loop-at .at) _ _ _ (s .inside) (s .is)
 
 pub loop-at-again : need.loop-at-again
-loop-at-again c =
-    ( search needs
-    , (c .loop-at .inv .1 .0, step-on (c .in-Bound .is) (step-back (c .loop-at-test .taken) (c .loop-at .inv .1 .1)))
-    , λ was s. step-on (c .in-Bound .is) (step-back (c .loop-at-test .taken) (c .loop-at .inv .2 was s))
-    )
+loop-at-again c = (
+  search needs,
+  (c .loop-at .inv .1 .0, step-on (c .in-Bound .is) (step-back (c .loop-at-test .taken) (c .loop-at .inv .1 .1))),
+  λ was s. step-on (c .in-Bound .is) (step-back (c .loop-at-test .taken) (c .loop-at .inv .2 was s)),
+)
 
 pub unreachable-requires : need.unreachable-requires
 unreachable-requires c κs =

@@ -37,11 +37,11 @@ settle-requires c κs =
     let b = right-fact (need.at·settle-requires c .In-Continue-fact) in
     let t = c .load-tables .result in
     let l = c .load-tables .ensures in
-    record
-      { ready = both-ready a b (t .text .bytes) (t .cells) (l .goal) (l .head) (l .size) (l .many) (l .free) (l .used) (l .newest)
-      ; room = omega (arith, l .depth)
-      ; few = both-few a b (t .text .bytes) (t .cells) (l .goal) (l .head) (l .size) (l .many) (l .free) (l .used) (l .newest)
-      }
+    record {
+      ready = both-ready a b (t .text .bytes) (t .cells) (l .goal) (l .head) (l .size) (l .many) (l .free) (l .used) (l .newest);
+      room = omega (arith, l .depth);
+      few = both-few a b (t .text .bytes) (t .cells) (l .goal) (l .head) (l .size) (l .many) (l .free) (l .used) (l .newest);
+    }
 
 pub returns : need.returns
 returns c =
@@ -50,12 +50,12 @@ returns c =
     let t = c .load-tables .result in
     let l = c .load-tables .ensures in
     let is = both-common a b (t .text .bytes) (t .cells) (l .goal) (l .head) (l .size) (l .many) (l .free) (l .used) (l .newest) in
-    record
-      { result =
+    record {
+      result =
           ap Ok (c .settle .ensures .told ∙ ap (λ (o : Option Term). told o (c .args .buffer .now)) is)
-          ∙ ap (λ (r : Result (Option Term) SingleFault). result r (c .args .buffer .now)) (sym (both-read a b))
-      ; buffer =
+          ∙ ap (λ (r : Result (Option Term) SingleFault). result r (c .args .buffer .now)) (sym (both-read a b));
+      buffer =
           c .settle .ensures .buffer
           ∙ ap (λ (o : Option Term). buffer-with o (c .args .buffer .now)) is
-          ∙ ap (λ (r : Result (Option Term) SingleFault). buffer-after r (c .args .buffer .now)) (sym (both-read a b))
-      }
+          ∙ ap (λ (r : Result (Option Term) SingleFault). buffer-after r (c .args .buffer .now)) (sym (both-read a b));
+    }

@@ -52,10 +52,10 @@ rests-again t c =
     let a = split (c .pre .sound) (c .in-Pair .ensures tt) in
     let e = split-is a (c .first .result) (c .rest-at .result) (c .first .ensures .place) (c .first .ensures .level) (c .rest-at .ensures .place _ _ (a .spans)) (c .rest-at .ensures .level) in
     let z = size-rest _ _ _ e in
-    record
-      { stands = part-stands (c .rest-at .result) (c .rest-at .ensures .place _ _ (a .spans)) (c .rest-at .ensures .level) (a .rest)
-      ; weighs = omega (arith, c .rests .inv .weighs)
-      ; leads = λ w r p.
+    record {
+      stands = part-stands (c .rest-at .result) (c .rest-at .ensures .place _ _ (a .spans)) (c .rest-at .ensures .level) (a .rest);
+      weighs = omega (arith, c .rests .inv .weighs);
+      leads = λ w r p.
           c .rests .inv .leads w r
-            (puts-as _ _ e (puts-then (c .put .ensures) (c .if-not-put .left) (puts-then (c .write .ensures) (c .if-not-write .left) p)))
-      }
+          (puts-as _ _ e (puts-then (c .put .ensures) (c .if-not-put .left) (puts-then (c .write .ensures) (c .if-not-write .left) p)));
+    }

@@ -34,8 +34,8 @@ pub rests-again : need.rests-again
 rests-again t c =
     let a = split (c .pre .sound) (c .in-Pair .ensures tt) in
     let e = split-is a (c .first .result) (c .rest-at .result) (c .first .ensures .place) (c .first .ensures .level) (c .rest-at .ensures .place _ _ (a .spans)) (c .rest-at .ensures .level) in
-    let z = size-rest _ _ _ e in
-    ( part-stands (c .rest-at .result) (c .rest-at .ensures .place _ _ (a .spans)) (c .rest-at .ensures .level) (a .rest)
-    , omega (arith, c .rests .inv .1)
-    , sym (occurs-no (c .args .cell) _ _ _ e (sym (c .occurs .ensures) ∙ c .if-occurs .left)) ∙ c .rests .inv .2
+    let z = size-rest _ _ _ e in (
+      part-stands (c .rest-at .result) (c .rest-at .ensures .place _ _ (a .spans)) (c .rest-at .ensures .level) (a .rest),
+      omega (arith, c .rests .inv .1),
+      sym (occurs-no (c .args .cell) _ _ _ e (sym (c .occurs .ensures) ∙ c .if-occurs .left)) ∙ c .rests .inv .2,
     )

@@ -37,7 +37,7 @@ add-self c =
     let place = c .args .self .now .place in
     let h = inside (need.at·add-self c .In-Some) in
     let ends : place + c .in-Some .size ≤ length bytes =
-        omega (arith, h .0, ap length (take-rest bytes place), length-drop place bytes, c .if-place-self .left) in
+    omega (arith, h .0, ap length (take-rest bytes place), length-drop place bytes, c .if-place-self .left) in
     search needs
 
 pub add-self-2 : need.add-self-2

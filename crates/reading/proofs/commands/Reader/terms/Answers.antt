@@ -24,8 +24,10 @@ loop-due-again-in-Atom c =
 pub returns-then-number-from : need.returns-then-number-from
 returns-then-number-from c =
     let t = at-command (need.at·returns-then-number-from c .In-Some) _ (c .in-Var .is) in
-    record { value = finds-undeclared (c .loop-due .inv) (c .loop-due-test .taken) _ (t .front) (omega (arith, c .from .ensures, c .if-number-from .taken))
-           ; went = reaches (c .loop-due .inv) (c .loop-due-test .taken) _ _ _ t }
+    record {
+      value = finds-undeclared (c .loop-due .inv) (c .loop-due-test .taken) _ (t .front) (omega (arith, c .from .ensures, c .if-number-from .taken));
+      went = reaches (c .loop-due .inv) (c .loop-due-test .taken) _ _ _ t;
+    }
 
 pub loop-due-less-in-Var : need.loop-due-less-in-Var
 loop-due-less-in-Var c = fewer (at-command (need.at·loop-due-less-in-Var c .In-Some) _ refl)

@@ -14,11 +14,11 @@ pub returns : need.returns
 returns c =
     let s = c .args .self .now in
     let after : Bool → List ℕ = λ (b : Bool). cond b (set (now (s .buffer)) (s .count) (c .args .byte)) (now (s .buffer)) in
-    elim (c .if-self-2 .came)
-      [ then-self-2 w ↦
+    elim (c .if-self-2 .came) [
+      | then-self-2 w ↦
           one-put s (c .if-self-2 .self) (c .args .byte) (ap (λ (x : Sink). x .count) (w .self-is)) (ap (λ (x : Sink). x .writing) (w .self-is)) (ap (λ (x : Sink). name (x .buffer)) (w .self-is))
-            (ap (λ (x : Sink). now (x .buffer)) (w .self-is) ∙ ap after (sym (w .if-self-2 .taken))) (omega (arith, c .if-self .left))
+          (ap (λ (x : Sink). now (x .buffer)) (w .self-is) ∙ ap after (sym (w .if-self-2 .taken))) (omega (arith, c .if-self .left))
       | else-self-2 w ↦
           one-put s (c .if-self-2 .self) (c .args .byte) (ap (λ (x : Sink). x .count) (w .self-is)) (ap (λ (x : Sink). x .writing) (w .self-is)) (ap (λ (x : Sink). name (x .buffer)) (w .self-is))
-            (ap (λ (x : Sink). now (x .buffer)) (w .self-is) ∙ ap after (sym (w .if-self-2 .left))) (omega (arith, c .if-self .left))
-      ]
+          (ap (λ (x : Sink). now (x .buffer)) (w .self-is) ∙ ap after (sym (w .if-self-2 .left))) (omega (arith, c .if-self .left))
+    ]

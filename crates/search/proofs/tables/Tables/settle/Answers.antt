@@ -11,8 +11,8 @@ instance-requires c κs =
     let s = settled (c .pre .ready) (c .try-rule .ensures .tried) (c .if-not-try-rule .left) in
     let t = ap (λ (x : Text). x .bytes) (c .try-rule .ensures .text) in
     let v = c .view .ensures in
-    record
-      { sound = sound-as t (v .used) (v .cells) (v .newest) (s .sound)
-      ; stands = term-as t (v .used) (c .args .goal) (s .stands)
-      ; few = omega (arith, c .pre .few, s .used, v .used)
-      }
+    record {
+      sound = sound-as t (v .used) (v .cells) (v .newest) (s .sound);
+      stands = term-as t (v .used) (c .args .goal) (s .stands);
+      few = omega (arith, c .pre .few, s .used, v .used);
+    }

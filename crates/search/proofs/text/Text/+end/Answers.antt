@@ -33,9 +33,9 @@ end-requires t c κs =
     let f = fork _ _ _ _ (c .pre .2) (c .if-tag-eq-ATOM .left) (c .if-tag-eq-VARIABLE .left) in
     let i = inside _ _ _ _ (f .at-left) in
     let j = inside _ _ _ _ (f .at-right) in
-    let e : c .end-middle .result ≡ f .mid = c .end-middle .ensures _ _ (f .at-left) in
-    ( search needs
-    , (f .right, c .pre .1, subst (λ (m : ℕ). Spans (c .args .self .now .bytes) m (f .right) (c .pre .1)) (sym e) (f .at-right))
+    let e : c .end-middle .result ≡ f .mid = c .end-middle .ensures _ _ (f .at-left) in (
+      search needs,
+      (f .right, c .pre .1, subst (λ (m : ℕ). Spans (c .args .self .now .bytes) m (f .right) (c .pre .1)) (sym e) (f .at-right)),
     )
 
 pub returns-then-tag-eq-ATOM : need.returns-then-tag-eq-ATOM

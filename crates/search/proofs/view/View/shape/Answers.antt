@@ -30,11 +30,11 @@ pub index-self-cell : need.index-self-cell
 index-self-cell c = omega (arith, stands-variable (c .looking .inv .2) (c .if-tag-ne-VARIABLE .left) .2, c .pre .sound .room)
 
 pub returns-in-Free : need.returns-in-Free
-returns-in-Free c =
-    ( stands-variable (c .looking .inv .2) (c .if-tag-ne-VARIABLE .left) .2
-    , c .in-Free .is
-    , sym (c .looking .inv .3) ∙ form-free (c .pre .sound) (c .looking .inv .2) (c .if-tag-ne-VARIABLE .left) (c .in-Free .is)
-    )
+returns-in-Free c = (
+  stands-variable (c .looking .inv .2) (c .if-tag-ne-VARIABLE .left) .2,
+  c .in-Free .is,
+  sym (c .looking .inv .3) ∙ form-free (c .pre .sound) (c .looking .inv .2) (c .if-tag-ne-VARIABLE .left) (c .in-Free .is),
+)
 
 pub looking-less : need.looking-less
 looking-less c =
