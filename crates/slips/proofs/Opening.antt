@@ -19,7 +19,8 @@ use Rattle.resolution.proofs.Limits.{within-limits}
 use Rattle.resolution.proofs.Sessions.{all-kept}
 use Rattle.resolution.proofs.Steps.{Fitting, fitting-stays, fitting-opening}
 use Rattle.slips.specs.declared.faults.OpeningFault.the-variants.{InQuery, TooManyRules, TooManyBytes}
-use Rattle.slips.specs.Opening.{rule-or-none, rules-in, All-rules, total, Opened}
+use Rattle.grammar.specs.Texts.{total}
+use Rattle.slips.specs.Opening.{rule-or-none, rules-in, All-rules, Opened}
 use Rattle.slips.specs.Checker.{no-number}
 use Rattle.slips.specs.Runs.{Request}
 use Rattle.slips.specs.Laws.{Opens}

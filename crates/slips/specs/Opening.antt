@@ -12,6 +12,7 @@ use Rattle.grammar.specs.Asking.{ask, go}
 use Rattle.grammar.specs.Singles.{rule, query}
 use Rattle.grammar.specs.Items.{most-bytes, most-rules}
 use Rattle.grammar.specs.Encodings.{All-bytes}
+use Rattle.grammar.specs.Texts.{total}
 use Rattle.resolution.specs.Rules.{no-rule}
 use Rattle.slips.specs.declared.faults.OpeningFault.{OpeningFault}
 use Rattle.slips.specs.declared.faults.OpeningFault.the-variants.{InQuery, TooManyRules, TooManyBytes}
@@ -28,11 +29,6 @@ rules-in texts = map (λ (bs : List ℕ). rule-or-none (rule bs)) texts
 abbrev pub All-rules : List (List ℕ) → Type 0
 All-rules [] = Unit {0}
 All-rules (bs ∷ texts) = All-bytes bs × ((r : Rule) × (rule bs ≡ Ok r)) × All-rules texts
-
--- how many bytes the rules have
-abbrev pub total : List (List ℕ) → ℕ
-total [] = 0
-total (bs ∷ texts) = length bs + total texts
 
 -- the rules and the query that a search is opened with
 pub record Opened : Type 0 where
