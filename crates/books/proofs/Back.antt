@@ -6,17 +6,20 @@ use Prim.Native.Nat.{ℕ, suc, _+_, _≤_, _<_}
 use native.Mathlib.Omega.{arith}
 use lib.Dec.{leb}
 use lib.ListN.{length, take, drop, length-append}
-use Rattle.std.proofs.shelf.Lists.{take-at}
-use Rattle.std.proofs.shelf.Tests.{and-parts, leb-true, le-leb}
+use Rattle.std.proofs.shelf.Lists.{take-at, drop-at}
+use Rattle.std.proofs.shelf.Tests.{and-parts, and-from, leb-true, le-leb}
 use Rattle.std.specs.declared.result.Result.{Result}
 use Rattle.std.specs.declared.result.Result.the-variants.{Ok, Err}
 use Rattle.terms.specs.Terms.{Rule}
 use Rattle.grammar.specs.Asking.{ask}
 use Rattle.grammar.specs.Items.{Item, world, rule, rules, book, most-bytes, most-rules}
 use Rattle.grammar.specs.Encodings.{All-bytes, rule-bytes, book-bytes, item-bytes, Fit-rule, All-fit-items, Fit-book}
-use Rattle.grammar.specs.Texts.{fit, all-fit, total, texts-of}
+use Rattle.grammar.specs.Texts.{all-bytes, fit, all-fit, total, texts-of}
 use Rattle.grammar.proofs.Framed.{ask-yes, asked}
-use Rattle.grammar.proofs.Fitting.{fit-text}
+use Rattle.grammar.specs.declared.faults.BookFault.{BookFault}
+use Rattle.grammar.proofs.Alone.{rules-inverse}
+use Rattle.grammar.proofs.Encoded.{bytes-drop}
+use Rattle.grammar.proofs.Fitting.{fit-text, fit-told, bytes-known}
 use Rattle.grammar.proofs.Rows.{books-inverse}
 use Rattle.books.specs.declared.faults.WriteFault.{WriteFault}
 use Rattle.books.specs.declared.faults.WriteFault.the-variants.{Rules, Bytes, Room}
@@ -138,3 +141,31 @@ written-back bs rs out a e l =
         ∙ ap Ok long in
     record { length-of = ap (λ ts. written ts (length out)) texts ∙ done
            ; bytes = ap (λ ts. after-writing ts out) texts ∙ ap (λ r. filled r (book-of ts) out) done ∙ ap (λ x. x ++ drop (length bs) out) (sym same) }
+
+-- ── the rules of a book are fit ──
+
+bytes-front : (xs ys : List ℕ) → All-bytes (xs ++ ys) → All-bytes xs
+bytes-front [] ys a = tt
+bytes-front (x ∷ xs) ys a = (a .0, bytes-front xs ys (a .1))
+
+bytes-back : (xs ys : List ℕ) → All-bytes (xs ++ ys) → All-bytes ys
+bytes-back [] ys a = a
+bytes-back (x ∷ xs) ys a = bytes-back xs ys (a .1)
+
+items-fit : (is : List Item) → All-fit-items is → All-bytes (book-bytes is) → all-fit (item-texts is) ≡ true
+items-fit [] f a = refl
+items-fit (world w ∷ is) f a = items-fit is (f .1) (a .1 .1)
+items-fit (rule r ∷ is) f a =
+    let front = bytes-front (rule-bytes r) (book-bytes is) a in
+    and-from (fit (rule-bytes r)) (all-fit (item-texts is)) (fit-told (rule-bytes r) r front (rules-inverse .reads-back r (f .0)))
+    (items-fit is (f .1) (bytes-back (rule-bytes r) (book-bytes is) a))
+
+pub book-fits : (bs : List ℕ) → all-bytes bs ≡ true → all-fit (texts-of (book bs)) ≡ true
+book-fits bs e = by (book bs) refl
+  where
+    by : (s : Result (List Item) BookFault) → book bs ≡ s → all-fit (texts-of s) ≡ true
+    by (Ok is) q =
+        let a = bytes-known bs e in
+        let k = books-inverse .only-encodings bs is a q in
+        items-fit is (k .0 .each) (subst All-bytes (k .1) a)
+    by (Err x) q = refl

@@ -1,3 +1,3 @@
 pub mod Begun
 pub mod Written
-mod Back
+pub mod Back

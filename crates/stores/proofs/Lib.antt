@@ -1,3 +1,5 @@
 pub mod Piled
 mod Owned
 mod Changed
+mod Opened
+mod Shelved

@@ -1,4 +1,5 @@
 // Stores of rules: the interface, and the stores that belong to the base.
 pub mod boards;
 pub mod piles;
+pub mod rulebooks;
 pub mod stores;
