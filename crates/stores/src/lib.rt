@@ -3,3 +3,4 @@ pub mod boards;
 pub mod piles;
 pub mod rulebooks;
 pub mod stores;
+pub mod writing;
