@@ -2,31 +2,29 @@
 use mathlib.Core.Path.{_≡_, refl, sym, ap, ap₂, subst, _∙_}
 use mathlib.Core.Bool.{true}
 use mathlib.Core.List.{List, [], _∷_, _++_, map}
-use Prim.Native.Nat.{ℕ, suc, _+_, _≤_, _<_}
+use Prim.Native.Nat.{ℕ, suc, _≤_}
 use native.Mathlib.Omega.{arith}
 use lib.Dec.{leb}
-use lib.ListN.{length, take, drop, length-append}
-use Rattle.std.proofs.shelf.Lists.{take-at, drop-at}
+use lib.ListN.{length, take, drop}
+use Rattle.std.proofs.shelf.Lists.{take-at}
 use Rattle.std.proofs.shelf.Tests.{and-parts, and-from, leb-true, le-leb}
 use Rattle.std.specs.declared.result.Result.{Result}
 use Rattle.std.specs.declared.result.Result.the-variants.{Ok, Err}
 use Rattle.terms.specs.Terms.{Rule}
-use Rattle.grammar.specs.Asking.{ask}
 use Rattle.grammar.specs.Items.{Item, world, rule, rules, book, most-bytes, most-rules}
-use Rattle.grammar.specs.Encodings.{All-bytes, rule-bytes, book-bytes, item-bytes, Fit-rule, All-fit-items, Fit-book}
-use Rattle.grammar.specs.Texts.{all-bytes, fit, all-fit, total, texts-of}
+use Rattle.grammar.specs.Encodings.{All-bytes, rule-bytes, book-bytes, All-fit-items}
+use Rattle.grammar.specs.Texts.{all-bytes, fit, all-fit, texts-of}
 use Rattle.grammar.proofs.Framed.{ask-yes, asked}
 use Rattle.grammar.specs.declared.faults.BookFault.{BookFault}
 use Rattle.grammar.proofs.Alone.{rules-inverse}
-use Rattle.grammar.proofs.Encoded.{bytes-drop}
 use Rattle.grammar.proofs.Fitting.{fit-text, fit-told, bytes-known}
 use Rattle.grammar.proofs.Rows.{books-inverse}
 use Rattle.books.specs.declared.faults.WriteFault.{WriteFault}
 use Rattle.books.specs.declared.faults.WriteFault.the-variants.{Rules, Bytes, Room}
 use Rattle.books.specs.Begins.{item-texts}
 use Rattle.books.specs.Writing.{joined, book-of, book-size, sized, fitted, written, filled, after-writing}
-use Rattle.books.specs.Laws.{Book-of-rules, Written-rules-read-back, Written-back, Books-are-written-back}
-use Rattle.books.proofs.Written.{joined-length, book-length}
+use Rattle.books.specs.Laws.{Book-of-rules, Written-rules-read-back, Books-are-written-back}
+use Rattle.books.proofs.Written.{book-length}
 
 -- ── what is written ──
 

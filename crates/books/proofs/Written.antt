@@ -7,6 +7,7 @@ use lib.ListN.{length, getD, take, drop, length-append}
 use lib.Seq.{paste}
 use Rattle.std.proofs.shelf.Lists.{take-more, take-at, drop-at, drop-drop, take-all}
 use Rattle.grammar.specs.Texts.{total}
+use Rattle.grammar.proofs.Fitting.{total-push}
 use Rattle.books.specs.Writing.{joined, book-of, book-size}
 
 pub joined-length : (ts : List (List ℕ)) → length (joined ts) ≡ total ts
@@ -19,10 +20,6 @@ book-length ts = omega (arith, joined-length ts)
 joined-push : (ts : List (List ℕ)) (t : List ℕ) → joined (ts ++ t ∷ []) ≡ joined ts ++ t
 joined-push [] t = append-nil t
 joined-push (u ∷ ts) t = ap (λ l. u ++ l) (joined-push ts t) ∙ sym (append-assoc u (joined ts) t)
-
-total-push : (ts : List (List ℕ)) (t : List ℕ) → total (ts ++ t ∷ []) ≡ total ts + length t
-total-push [] t = omega arith
-total-push (u ∷ ts) t = omega (arith, total-push ts t)
 
 module _ (ts : List (List ℕ)) (i : ℕ) (l : i < length ts) where
   -- a rule more

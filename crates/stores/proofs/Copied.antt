@@ -1,40 +1,36 @@
 -- Copying the rules of a store. Assumes nothing.
-use mathlib.Core.Path.{_≡_, refl, sym, ap, ap₂, subst, _∙_}
+use mathlib.Core.Path.{_≡_, refl, sym, ap, ap₂, _∙_}
 use mathlib.Core.Bool.{Bool, true, false, cond}
 use mathlib.Core.List.{List, [], _∷_, _++_}
-use Prim.Native.Nat.{ℕ, suc, _+_, min, _≤_, _<_}
+use Prim.Native.Nat.{ℕ, _+_, _≤_, _<_}
 use native.Mathlib.Omega.{arith}
 use native.Mathlib.Numerals.{add-one}
 use lib.Dec.{leb, ltb}
 use lib.ListN.{length, getD, take, drop, set}
 use lib.Seq.{paste, paste-suc}
 use Rattle.std.proofs.shelf.Lists.{take-all, drop-set-lt}
-use Rattle.std.proofs.shelf.Tests.{lt-ltb, ltb-true, leb-true, le-leb, lt-leb}
-use Rattle.std.specs.declared.option.Option.{Option}
+use Rattle.std.proofs.shelf.Tests.{ltb-true, leb-true, le-leb, lt-leb}
 use Rattle.std.specs.declared.option.Option.the-variants.{Some, None}
 use Rattle.std.specs.declared.result.Result.{Result}
 use Rattle.std.specs.declared.result.Result.the-variants.{Ok, Err}
 use Rattle.grammar.specs.Asking.{ask}
 use Rattle.grammar.specs.Items.{most-rules, most-bytes}
-use Rattle.grammar.specs.Texts.{total}
 use Rattle.grammar.proofs.Framed.{asked}
 use Rattle.books.specs.declared.faults.WriteFault.{WriteFault}
 use Rattle.books.specs.declared.faults.WriteFault.the-variants.{Rules, Bytes, Room}
-use Rattle.books.specs.Writing.{joined, book-of, book-size, sized, fitted, written, filled, after-writing}
+use Rattle.books.specs.Writing.{book-of, book-size, sized, fitted, written, filled, after-writing}
 use Rattle.books.proofs.Written.{book-length, joined-more, total-more, total-part, laid}
-use Rattle.stores.specs.Answers.{count-of, of-rule, size-of, byte-at, byte-of}
+use Rattle.stores.specs.Answers.{count-of, size-of, byte-at, byte-of}
+use Rattle.stores.proofs.Piled.{there}
 
 -- ── what is asked of a rule that is there ──
 
 module _ (ts : List (List ℕ)) (i : ℕ) (l : i < count-of ts) where
-  there : {X : Type 0} (ask : List ℕ → Option X) → of-rule ask ts i ≡ ask (getD ts i [])
-  there ask = ap (λ b. cond b (ask (getD ts i [])) None) (lt-ltb i (count-of ts) l)
-
   pub size-is : size-of ts i ≡ Some (length (getD ts i []))
-  size-is = there (λ t. Some (length t))
+  size-is = there (λ t. Some (length t)) ts i l
 
   pub byte-some : (j b : ℕ) → Some b ≡ byte-of ts i j → (j < length (getD ts i [])) × (b ≡ getD (getD ts i []) j 0)
-  byte-some j b e = by (ltb j (length (getD ts i []))) refl (e ∙ there (byte-at j))
+  byte-some j b e = by (ltb j (length (getD ts i []))) refl (e ∙ there (byte-at j) ts i l)
     where
       by : (t : Bool) → ltb j (length (getD ts i [])) ≡ t → Some b ≡ cond t (Some (getD (getD ts i []) j 0)) None → (j < length (getD ts i [])) × (b ≡ getD (getD ts i []) j 0)
       by true q e = (ltb-true j (length (getD ts i [])) q, (let same : b ≡ getD (getD ts i []) j 0 = cc in same))

@@ -1,15 +1,14 @@
 -- A book read item by item, with the places of its rules. Assumes nothing.
-use mathlib.Core.Path.{_≡_, refl, sym, ap, ap₂, subst, _∙_}
+use mathlib.Core.Path.{_≡_, refl, sym, ap, ap₂, _∙_}
 use mathlib.Core.Bool.{Bool, true, false}
 use mathlib.Core.List.{List, [], _∷_, _++_, append-nil, append-assoc}
 use Prim.Native.Nat.{ℕ, suc, _+_, _-_, max, _≤_, _<_}
-use native.Mathlib.Nat.{add-zero, zero-add}
+use native.Mathlib.Nat.{add-zero}
 use native.Mathlib.Omega.{arith}
 use lib.Dec.{leb}
 use lib.ListN.{length, take, drop, set, length-drop, length-set}
 use Rattle.std.proofs.shelf.Lists.{drop-drop, take-more-set}
 use Rattle.std.proofs.shelf.Tests.{leb-true}
-use Rattle.std.specs.declared.option.Option.{Option}
 use Rattle.std.specs.declared.option.Option.the-variants.{Some, None}
 use Rattle.std.specs.declared.result.Result.{Result}
 use Rattle.std.specs.declared.result.Result.the-variants.{Ok, Err}
@@ -23,7 +22,7 @@ use Rattle.grammar.proofs.Places.{item-inside}
 use Rattle.grammar.proofs.Rows.{one-more, no-more}
 use Rattle.reading.specs.Views.{seen}
 use Rattle.reading.specs.Books.{Book-view, Item-view, world-seen, rule-seen, item-shown, item-size, item-count, first-item, shown-first, passed, counted, next-of, after-item, opened}
-use Rattle.reading.proofs.Sizes.{First, first, shown-size, shown-count}
+use Rattle.reading.proofs.Sizes.{first, shown-size, shown-count}
 use Rattle.books.specs.Begins.{rule-places}
 
 -- the places of the rules of what is left of a book, after those in front

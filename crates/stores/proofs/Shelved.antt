@@ -1,12 +1,11 @@
 -- What a table of places says of a book. Assumes nothing.
 use mathlib.Core.Path.{_≡_, refl, sym, ap, subst, _∙_}
-use mathlib.Core.Bool.{true, cond}
-use mathlib.Core.List.{List, [], _∷_}
-use Prim.Native.Nat.{ℕ, _+_, _*_, _-_, min, _≤_, _<_}
+use mathlib.Core.Bool.{true}
+use mathlib.Core.List.{List, []}
+use Prim.Native.Nat.{ℕ, _+_, _*_, _-_, _≤_, _<_}
 use native.Mathlib.Omega.{arith}
 use lib.ListN.{length, getD, take, drop, length-take}
 use Rattle.std.proofs.shelf.Lists.{getD-take}
-use Rattle.std.proofs.shelf.Tests.{lt-ltb, le-ltb}
 use Rattle.std.specs.Results.{isOk}
 use Rattle.std.specs.declared.option.Option.the-variants.{Some, None}
 use Rattle.std.specs.declared.result.Result.{Result}
@@ -21,15 +20,16 @@ use Rattle.books.specs.Begins.{rule-places, item-texts}
 use Rattle.books.proofs.Begun.{Stands, places-length, stands, size-there}
 use Rattle.books.proofs.Back.{book-fits}
 use Rattle.reading.specs.Views.{seen}
-use Rattle.stores.specs.Answers.{no-number, count-of, text-of}
+use Rattle.stores.specs.Answers.{count-of, text-of}
 use Rattle.stores.specs.Begun.{places-of}
+use Rattle.stores.proofs.Piled.{there, not-there}
 
 -- the rule with a number, in a list that is not too long
 pub text-here : (ts : List (List ℕ)) (i : ℕ) → length ts ≤ 1024 → i < length ts → Some (getD ts i []) ≡ text-of ts i
-text-here ts i few l = sym (ap (λ b. cond b (Some (getD ts i [])) None) (lt-ltb i (count-of ts) (omega arith)))
+text-here ts i few l = sym (there (λ t. Some t) ts i (omega arith))
 
 pub text-gone : (ts : List (List ℕ)) (i : ℕ) → length ts ≤ i → None ≡ text-of ts i
-text-gone ts i l = sym (ap (λ b. cond b (Some (getD ts i [])) None) (le-ltb i (count-of ts) (omega arith)))
+text-gone ts i l = sym (not-there (λ t. Some t) ts i (omega arith))
 
 -- ── the table of a book ──
 
@@ -66,22 +66,22 @@ module _ (bs : List ℕ) (n : ℕ) (places : List ℕ) (t : Table bs n places) w
     abbrev pub it : List ℕ
     it = getD (item-texts (t .is)) i []
 
-    there : i < length (item-texts (t .is))
-    there = omega (arith, t .count)
+    in-list : i < length (item-texts (t .is))
+    in-list = omega (arith, t .count)
 
     pub stands-at : Stands bs (getD places i 0) it
     stands-at =
         let same = books-inverse .only-encodings bs (t .is) (bytes-known bs (t .known)) (t .read) .1 in
         let place : getD (rule-places 0 (t .is)) i 0 ≡ getD places i 0 = ap (λ l. getD l i 0) (sym (t .placed)) ∙ getD-take n places i 0 l in
         subst (λ x. Stands x (getD places i 0) it) (sym same)
-        (subst (λ p. Stands (book-bytes (t .is)) p it) place (stands [] (t .is) i there))
+        (subst (λ p. Stands (book-bytes (t .is)) p it) place (stands [] (t .is) i in-list))
 
     -- its length, by its header
     pub long : 5 ≤ length it
-    long = size-there bs (getD places i 0) (t .is) i there stands-at .1
+    long = size-there bs (getD places i 0) (t .is) i in-list stands-at .1
 
     pub by-header : 5 + (getD bs (getD places i 0 + 3) 0 * 256 + getD bs (getD places i 0 + 4) 0) ≡ length it
-    by-header = size-there bs (getD places i 0) (t .is) i there stands-at .0
+    by-header = size-there bs (getD places i 0) (t .is) i in-list stands-at .0
 
     pub part-is : (m : ℕ) → 5 + m ≡ length it → take (getD places i 0 + 5 + m - getD places i 0) (drop (getD places i 0) bs) ≡ it
     part-is m e =
@@ -91,11 +91,11 @@ module _ (bs : List ℕ) (n : ℕ) (places : List ℕ) (t : Table bs n places) w
 
     pub present : Some it ≡ text-of (texts-of (book bs)) i
     present =
-        text-here (item-texts (t .is)) i (omega (arith, t .count, t .few)) there
+        text-here (item-texts (t .is)) i (omega (arith, t .count, t .few)) in-list
         ∙ ap (λ ts. text-of ts i) (sym texts)
 
     pub short : length it ≤ 517
-    short = fit-short it (fit-at (item-texts (t .is)) i (subst (λ ts. all-fit ts ≡ true) texts (book-fits bs (t .known))) there)
+    short = fit-short it (fit-at (item-texts (t .is)) i (subst (λ ts. all-fit ts ≡ true) texts (book-fits bs (t .known))) in-list)
 
 -- ── opening ──
 

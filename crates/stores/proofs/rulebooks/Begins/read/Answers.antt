@@ -14,7 +14,7 @@ use Rattle.reading.specs.Books.{book-view, item-view, Item-view, world-seen, ru
 use Rattle.reading.specs.Views.{rule-view}
 use Rattle.reading.proofs.Parts.{known}
 use Rattle.stores.specs.Begun.{begun}
-use Rattle.stores.proofs.Opened.{Went, went, Reading, begin, world-more, rule-more, ends, refused-first, refused-later}
+use Rattle.stores.proofs.Opened.{Went, went, begin, world-more, rule-more, ends, refused-first, refused-later}
 use Rattle.stores.proofs.rulebooks.Begins.read.Needs as need
 use Rattle.stores.proofs.rulebooks.Begins.read.Needs.{In-Some}
 

@@ -4,7 +4,7 @@ use native.Mathlib.Omega.{arith}
 use borrow.Author.Needs.{needs}
 use lib.ListN.{length, getD}
 use Rattle.std.specs.declared.option.Option.the-variants.{Some}
-use Rattle.stores.proofs.Shelved.{Table, tabled, absent, it, stands-at, long, by-header, part-is, present, short}
+use Rattle.stores.proofs.Shelved.{Table, tabled, absent, stands-at, long, by-header, part-is, present, short}
 use Rattle.stores.specs.declared.rulebooks.RuleBook.{RuleBook}
 use Rattle.stores.proofs.rulebooks.RuleBook.text.Needs as need
 
