@@ -4,5 +4,5 @@ pub mod Parts
 mod Under
 mod Alone
 mod Numbered
-mod Sizes
+pub mod Sizes
 pub mod Whole

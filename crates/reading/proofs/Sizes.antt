@@ -19,7 +19,7 @@ use Rattle.grammar.proofs.Rows.{item-read}
 use Rattle.reading.specs.Views.{seen}
 use Rattle.reading.specs.Books.{Item-view, item-shown, item-size, item-count, Book-view, first-item, shown-first, passed, counted, next-of, after-item, sized-shown, sized-first}
 
-shown-size : (p : ℕ) (i : Item) → item-size (item-shown p i) ≡ length (item-bytes i)
+pub shown-size : (p : ℕ) (i : Item) → item-size (item-shown p i) ≡ length (item-bytes i)
 shown-size p (world w) = refl
 shown-size p (rule r) = omega (arith, length-append (encoding Rules (r .head)) (encodings Rules (r .goals)))
 

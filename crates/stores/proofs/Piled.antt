@@ -13,10 +13,11 @@ use Rattle.std.specs.declared.option.Option.{Option}
 use Rattle.std.specs.declared.option.Option.the-variants.{Some, None}
 use Rattle.stores.specs.Answers.{no-number, count-of, of-rule}
 
-there : {X : Type 0} (ask : List ℕ → Option X) (ts : List (List ℕ)) (i : ℕ) → i < count-of ts → of-rule ask ts i ≡ ask (getD ts i [])
+-- a rule that is there, and one that is not
+pub there : {X : Type 0} (ask : List ℕ → Option X) (ts : List (List ℕ)) (i : ℕ) → i < count-of ts → of-rule ask ts i ≡ ask (getD ts i [])
 there ask ts i l = ap (λ b. cond b (ask (getD ts i [])) None) (lt-ltb i (count-of ts) l)
 
-not-there : {X : Type 0} (ask : List ℕ → Option X) (ts : List (List ℕ)) (i : ℕ) → count-of ts ≤ i → of-rule ask ts i ≡ None
+pub not-there : {X : Type 0} (ask : List ℕ → Option X) (ts : List (List ℕ)) (i : ℕ) → count-of ts ≤ i → of-rule ask ts i ≡ None
 not-there ask ts i l = ap (λ b. cond b (ask (getD ts i [])) None) (le-ltb i (count-of ts) l)
 
 module _ (ts us : List (List ℕ)) where

@@ -20,6 +20,14 @@ impl<U: Store, L: Store> Pile<U, L> {
     }
 }
 
+// The same three stores, the lower two piled first: the rules are the same.
+pub fn regroup<A: Store, B: Store, C: Store>(pile: Pile<Pile<A, B>, C>) -> Pile<A, Pile<B, C>>
+    ensures { λ r. ⌜ A·Store .rules (r .upper) ++ (B·Store .rules (r .lower .upper) ++ C·Store .rules (r .lower .lower)) ≡ (A·Store .rules (pile .upper .upper) ++ B·Store .rules (pile .upper .lower)) ++ C·Store .rules (pile .lower) ⌝ }
+{
+    let Pile { upper: Pile { upper, lower: middle }, lower } = pile;
+    Pile { upper, lower: Pile { upper: middle, lower } }
+}
+
 pub impl<U: Store, L: Store> Store for Pile<U, L> as PileStore {
     ghost rules = { λ p. U·Store .rules (p .upper) ++ L·Store .rules (p .lower) };
 
