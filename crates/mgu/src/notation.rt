@@ -30,7 +30,7 @@ fn part(heap: Global, command: Command, rest: bool) -> Result<String, AllocError
 }
 
 // The first term that stands in the bytes.
-pub fn term(heap: Global, bytes: &[u8]) -> Result<String, AllocError> {
+pub(crate) fn term(heap: Global, bytes: &[u8]) -> Result<String, AllocError> {
     let mut text = String::new(heap);
     let mut reader = Reader::new(bytes);
     // how many lists are open, and whether the rest of the innermost comes next

@@ -14,7 +14,7 @@ use stores::writing::write;
 // what fills a buffer before it is written to
 const FILLER: u8 = 0xEE;
 
-pub fn refused_book(heap: Global, fault: BookFault) -> Result<String, AllocError> {
+pub(crate) fn refused_book(heap: Global, fault: BookFault) -> Result<String, AllocError> {
     let number = fault.number();
     let place = fault.place();
     let layer = fault.layer();
@@ -24,7 +24,7 @@ pub fn refused_book(heap: Global, fault: BookFault) -> Result<String, AllocError
     }
 }
 
-pub fn chosen_line(heap: Global, choice: Choice) -> Result<String, AllocError> {
+pub(crate) fn chosen_line(heap: Global, choice: Choice) -> Result<String, AllocError> {
     match choice {
         Choice::Board => String::from_str(heap, "board"),
         Choice::Book => String::from_str(heap, "book"),
@@ -54,7 +54,7 @@ fn refused_rule(heap: Global, fault: AddFault) -> Result<String, AllocError> {
     format!(heap, "add,refused,{number},{place},{layer}")
 }
 
-pub fn add_line(heap: Global, board: &mut Board, digits: &str) -> Result<String, AllocError> {
+pub(crate) fn add_line(heap: Global, board: &mut Board, digits: &str) -> Result<String, AllocError> {
     let Some(rule) = decode(heap, digits.as_bytes())? else {
         return String::from_str(heap, "unknown");
     };
@@ -64,7 +64,7 @@ pub fn add_line(heap: Global, board: &mut Board, digits: &str) -> Result<String,
     }
 }
 
-pub fn remove_line(heap: Global, board: &mut Board, rule: u16) -> Result<String, AllocError> {
+pub(crate) fn remove_line(heap: Global, board: &mut Board, rule: u16) -> Result<String, AllocError> {
     match board.remove(rule) {
         Ok(()) => String::from_str(heap, "remove,ok"),
         Err(fault) => {
@@ -75,7 +75,7 @@ pub fn remove_line(heap: Global, board: &mut Board, rule: u16) -> Result<String,
 }
 
 // What a store answers.
-pub fn answer_line<S: Store>(heap: Global, store: &S, question: Question) -> Result<String, AllocError> {
+pub(crate) fn answer_line<S: Store>(heap: Global, store: &S, question: Question) -> Result<String, AllocError> {
     match question {
         Question::Count => {
             let count = store.count();

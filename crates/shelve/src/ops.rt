@@ -59,7 +59,7 @@ fn with_operands(line: &str) -> Option<Op<'_>> {
     }
 }
 
-pub fn parse(line: &str) -> Op<'_> {
+pub(crate) fn parse(line: &str) -> Op<'_> {
     match line {
         "board" => Op::Choose(Choice::Board),
         "book" => Op::Choose(Choice::Book),
