@@ -5,8 +5,8 @@ use Rattle.hexadecimal.proofs.encode.Goals as goal
 
 pub loop-byte-preserved : goal.loop-byte-preserved
 loop-byte-preserved c =
-    let first = c.in-ok-push.ensures in
-    let second = c.in-ok-push-2.ensures in
+    let first = c.in_ok-push.ensures in
+    let second = c.in_ok-push-2.ensures in
     let one = letter_more _ _ _ _ _ first.bytes first.ascii c.from.ensures c.letter-high.ensures.ascii in
     let two = letter_more _ _ _ _ _ second.bytes second.ascii c.from-in-loop-byte.ensures c.letter-low.ensures.ascii in
     ap (λ x. x ++ encoded (drop (c.loop-byte.byte-index + 1) c.args.bytes.now)) (two ∙ ap (λ x. x ++ c.letter-low.result ∷ []) one)

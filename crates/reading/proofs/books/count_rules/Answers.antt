@@ -6,13 +6,13 @@ use Rattle.reading.proofs.books.count_rules.Goals as goal
 use Rattle.reading.proofs.books.count_rules.Goals.{In-Some}
 
 pub loop-init : goal.loop-init
-loop-init c = starts c.args.bytes.now (book_view c.in-ok-book.book) c.in-ok-book.ensures
+loop-init c = starts c.args.bytes.now (book_view c.in_ok-book.book) c.in_ok-book.ensures
 
 at_item : (c : In-Some)
     → (rest_count (book_view c.item.new.self) ≡ rest_count (book_view c.loop.book))
     × (length c.item.new.self.bytes.now - c.item.new.self.place < length c.loop.book.bytes.now - c.loop.book.place)
 at_item c =
-    let h = c.in-ok-item.ensures in
+    let h = c.in_ok-item.ensures in
     goes_on (book_view c.loop.book) (book_view c.item.new.self) (item_view c.in-Some.field-0)
     (ap (λ o. Ok (option_map item_view o)) (sym c.in-Some.is) ∙ h.value) h.after
 
@@ -24,7 +24,7 @@ loop-preserved c = (at_item (goal.at.loop-preserved c).In-Some).0 ∙ c.loop.inv
 
 pub returns : goal.returns
 returns c =
-    let h = c.in-ok-item.ensures in
+    let h = c.in_ok-item.ensures in
     ap Ok c.rules.ensures
-    ∙ sym (ends (book_view c.loop.book) (book_view c.item.new.self) (ap (λ o. Ok (option_map item_view o)) (sym c.in-default.is) ∙ h.value) h.after)
+    ∙ sym (ends (book_view c.loop.book) (book_view c.item.new.self) (ap (λ o. Ok (option_map item_view o)) (sym c.in_default.is) ∙ h.value) h.after)
     ∙ c.loop.invariant

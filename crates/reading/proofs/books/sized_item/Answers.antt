@@ -8,8 +8,8 @@ use Rattle.reading.proofs.books.sized_item.Goals.{In-Some}
 
 at_item : (c : In-Some) → First c.args.rules c.args.place c.args.bytes.now (item_view c.in-Some.item)
 at_item c =
-    first c.args.rules c.args.place c.args.bytes.now _ (known c.args.bytes.now c.type-inv.bytes)
-    (ap (λ o. Ok (option_map item_view o)) (sym c.in-Some.is) ∙ c.in-ok-item.ensures)
+    first c.args.rules c.args.place c.args.bytes.now _ (known c.args.bytes.now c.type_inv.bytes)
+    (ap (λ o. Ok (option_map item_view o)) (sym c.in-Some.is) ∙ c.in_ok-item.ensures)
 
 pub size-size-requires : goal.size-size-requires
 size-size-requires c =

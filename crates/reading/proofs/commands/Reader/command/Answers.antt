@@ -6,7 +6,7 @@ use Rattle.reading.proofs.commands.Reader.command.Goals as goal
 pub returns : goal.returns
 returns c =
     record {
-      value = first_is _ _ c.args.self.now.bytes.now _ (search rules) c.in-ok-command.ensures;
-      bytes = simp take_rest (ap (λ n. drop n c.args.self.now.bytes.now) c.size-of-size.ensures);
-      place = ap (λ n. c.args.self.now.place + n) c.size-of-size.ensures;
+      value = first_is _ _ c.args.self.now.bytes.now _ (search rules) c.in_ok-command.ensures;
+      bytes = simp take_rest (ap (λ n. drop n c.args.self.now.bytes.now) c.size_of-size.ensures);
+      place = ap (λ n. c.args.self.now.place + n) c.size_of-size.ensures;
     }

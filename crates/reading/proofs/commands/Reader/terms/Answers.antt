@@ -8,7 +8,7 @@ use Rattle.reading.proofs.commands.Reader.terms.Goals.{In-Some}
 at_command : (c : In-Some) (x : Command) → c.in-Some.command ≡ x
     → Took c.args.form c.loop-due.self.place c.loop-due.self.bytes.now x c.command.new.self.place c.command.new.self.bytes.now
 at_command c x e =
-    let h = c.in-ok-command.ensures in
+    let h = c.in_ok-command.ensures in
     took _ _ _ _ _ _ _ (c.in-Some.is ∙ ap Some e) h.value h.bytes h.place
 
 pub loop-due-smaller-in-Atom : goal.loop-due-smaller-in-Atom
