@@ -21,8 +21,8 @@ next-requires g c =
     let k = c.loop-due.invariant p.used p.one p.ones p.other p.others p.one_comes p.other_comes in
     record { short = c.requires.short; comes = record { used = p.used; pending = k.left ++ p.ones; few = p.few; comes = k.one } }
 
-pub returns-in-default : goal.returns-in-default
-returns-in-default g c = λ used s ss t ts a b. absurd (one_more (c.loop-due.invariant used s ss t ts a b) c.loop-due-test.true (c.in-default.ensures.took used))
+pub returns-in_default : goal.returns-in_default
+returns-in_default g c = λ used s ss t ts a b. absurd (one_more (c.loop-due.invariant used s ss t ts a b) c.loop-due-test.true (c.in_default.ensures.took used))
 
 pub next-requires-in-loop-due : goal.next-requires-in-loop-due
 next-requires-in-loop-due g c =
@@ -30,8 +30,8 @@ next-requires-in-loop-due g c =
     let k = c.loop-due.invariant p.used p.one p.ones p.other p.others p.one_comes p.other_comes in
     record { short = c.requires.short; comes = record { used = p.used; pending = k.right ++ p.others; few = p.few; comes = k.other } }
 
-pub returns-in-default-next : goal.returns-in-default-next
-returns-in-default-next g c = λ used s ss t ts a b. absurd (other_more (c.loop-due.invariant used s ss t ts a b) c.loop-due-test.true (c.in-default-next.ensures.took used))
+pub returns-in_default-next : goal.returns-in_default-next
+returns-in_default-next g c = λ used s ss t ts a b. absurd (other_more (c.loop-due.invariant used s ss t ts a b) c.loop-due-test.true (c.in_default-next.ensures.took used))
 
 pub returns-then-ne : goal.returns-then-ne
 returns-then-ne g c = λ used s ss t ts a b.
@@ -48,8 +48,8 @@ turn g c n e = λ used s ss t ts a b.
     (goes_on (c.loop-due.invariant used s ss t ts a b) c.loop-due-test.true c.in-Some.ours (c.in-Some.ensures.took used)
     (λ p h. subst (λ x. Took Other p (Some x)) same (c.in-Some-next.ensures.took used p h)))
 
-pub due-after-due-requires : goal.due-after-due-requires
-due-after-due-requires g c =
+pub due_after-due-requires : goal.due_after-due-requires
+due_after-due-requires g c =
     let p = c.requires.both in
     let store = c.args.texts.now.store.now in
     let k = c.loop-due.invariant p.used p.one p.ones p.other p.others p.one_comes p.other_comes in
@@ -61,7 +61,7 @@ pub loop-due-smaller : goal.loop-due-smaller
 loop-due-smaller g c = c.in-Some.ensures.nearer
 
 pub loop-due-preserved : goal.loop-due-preserved
-loop-due-preserved g c = turn g (goal.at.loop-due-preserved g c).Else-ne c.due-after-due.result (sym c.due-after-due.ensures)
+loop-due-preserved g c = turn g (goal.at.loop-due-preserved g c).Else-ne c.due_after-due.result (sym c.due_after-due.ensures)
 
 pub returns : goal.returns
 returns g c = λ used s ss t ts a b. all_compared (c.loop-due.invariant used s ss t ts a b) (omega (arith, c.loop-due-test.false))

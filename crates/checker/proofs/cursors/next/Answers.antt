@@ -8,7 +8,7 @@ use Rattle.comparing.proofs.Cursors.{took_inside, took_end, took_atom, took_pair
 use Rattle.comparing.proofs.Rules.{text_short}
 use Rattle.checker.proofs.cursors.next.Given as given
 use Rattle.checker.proofs.cursors.next.Goals as goal
-use Rattle.checker.proofs.cursors.next.Goals.{In-ok-command}
+use Rattle.checker.proofs.cursors.next.Goals.{In_ok-command}
 
 pub returns-then-cursor-gt0 : goal.returns-then-cursor-gt0
 returns-then-cursor-gt0 g c =
@@ -24,61 +24,61 @@ returns-then-cursor-gt0 g c =
           (slip_nearer slip cursor.place cursor.inner c.inside.new.cursor.inner c.inside.ensures.onward c.inside.ensures.within));
     }
 
-pub returns-in-err-command : goal.returns-in-err-command
-returns-in-err-command g c =
+pub returns-in_err-command : goal.returns-in_err-command
+returns-in_err-command g c =
     let none : c.args.cursor.now.due ≡ 0 = omega (arith, c.if-cursor-gt0.false) in
     record {
       took = λ used pending m.
-          subst (Took (Comes (g.S.Store.rules c.args.texts.now.store.now) c.args.texts.now.body.now c.args.slip.now c.args.table.now used c.args.cursor.now) pending) (sym c.from-residual.ensures)
-          (took_end m none c.in-err-command.ensures);
-      nearer = let w = weight c.args.slip.now c.args.cursor.now.place c.args.cursor.now.inner in subst (λ r. Nearer r w w) (sym c.from-residual.ensures) tt;
+          subst (Took (Comes (g.S.Store.rules c.args.texts.now.store.now) c.args.texts.now.body.now c.args.slip.now c.args.table.now used c.args.cursor.now) pending) (sym c.from_residual.ensures)
+          (took_end m none c.in_err-command.ensures);
+      nearer = let w = weight c.args.slip.now c.args.cursor.now.place c.args.cursor.now.inner in subst (λ r. Nearer r w w) (sym c.from_residual.ensures) tt;
     }
 
 -- the command at the cursor's place lies inside a short text
-here : (g : given.Over) (c : In-ok-command g) → c.args.cursor.now.place < 517
+here : (g : given.Over) (c : In_ok-command g) → c.args.cursor.now.place < 517
 here g c =
     let store = c.args.texts.now.store.now in
     let ts = g.S.Store.rules store in
     let body = c.args.texts.now.body.now in
-    let inside = text_inside (text_in ts body c.args.cursor.now.source) c.args.cursor.now.place c.in-ok-command.command c.in-ok-command.ensures in
+    let inside = text_inside (text_in ts body c.args.cursor.now.source) c.args.cursor.now.place c.in_ok-command.command c.in_ok-command.ensures in
     let short = text_short ts (g.S.Store.fit store) body c.args.cursor.now.source c.requires.short in
     omega (arith, inside, short)
 
-pub overflow-add-cursor : goal.overflow-add-cursor
-overflow-add-cursor g c =
-    let low = here g (goal.at.overflow-add-cursor g c).In-ok-command in
+pub overflow_add-cursor : goal.overflow_add-cursor
+overflow_add-cursor g c =
+    let low = here g (goal.at.overflow_add-cursor g c).In_ok-command in
     let fits : c.args.cursor.now.place + 2 < 65536 = omega arith in
     search rules
 
 pub bounds-table-cursor : goal.bounds-table-cursor
 bounds-table-cursor g c =
     let none : c.args.cursor.now.due ≡ 0 = omega (arith, c.if-cursor-gt0.false) in
-    let k = enters c.requires.comes.comes none c.in-Var.number (ap Some (sym c.in-Var.is) ∙ c.in-ok-command.ensures) in
+    let k = enters c.requires.comes.comes none c.in-Var.number (ap Some (sym c.in-Var.is) ∙ c.in_ok-command.ensures) in
     omega (arith, k.low, c.requires.comes.few)
 
 pub inside-requires-in-Var : goal.inside-requires-in-Var
 inside-requires-in-Var g c =
     let none : c.args.cursor.now.due ≡ 0 = omega (arith, c.if-cursor-gt0.false) in
-    let k = enters c.requires.comes.comes none c.in-Var.number (ap Some (sym c.in-Var.is) ∙ c.in-ok-command.ensures) in
+    let k = enters c.requires.comes.comes none c.in-Var.number (ap Some (sym c.in-Var.is) ∙ c.in_ok-command.ensures) in
     record { due = omega arith; stands = (k.into.inside, k.into.in_slip, k.into.counted) }
 
-pub overflow-add-cursor-in-Atom : goal.overflow-add-cursor-in-Atom
-overflow-add-cursor-in-Atom g c =
-    let low = here g (goal.at.overflow-add-cursor-in-Atom g c).In-ok-command in
+pub overflow_add-cursor-in-Atom : goal.overflow_add-cursor-in-Atom
+overflow_add-cursor-in-Atom g c =
+    let low = here g (goal.at.overflow_add-cursor-in-Atom g c).In_ok-command in
     let fits : c.args.cursor.now.place + 3 < 65536 = omega arith in
     search rules
 
-pub overflow-add-cursor-in-Pair : goal.overflow-add-cursor-in-Pair
-overflow-add-cursor-in-Pair g c =
-    let low = here g (goal.at.overflow-add-cursor-in-Pair g c).In-ok-command in
+pub overflow_add-cursor-in-Pair : goal.overflow_add-cursor-in-Pair
+overflow_add-cursor-in-Pair g c =
+    let low = here g (goal.at.overflow_add-cursor-in-Pair g c).In_ok-command in
     let fits : c.args.cursor.now.place + 1 < 65536 = omega arith in
     search rules
 
 pub returns-in-Var : goal.returns-in-Var
 returns-in-Var g c =
-    let low = here g (goal.at.returns-in-Var g c).In-ok-command in
+    let low = here g (goal.at.returns-in-Var g c).In_ok-command in
     let none : c.args.cursor.now.due ≡ 0 = omega (arith, c.if-cursor-gt0.false) in
-    let read = c.in-ok-command.ensures in
+    let read = c.in_ok-command.ensures in
     let e = c.inside-in-Var.ensures.rest in
     let slip = c.args.slip.now in
     let cursor = c.args.cursor.now in
@@ -93,9 +93,9 @@ returns-in-Var g c =
 
 pub returns-in-Atom : goal.returns-in-Atom
 returns-in-Atom g c =
-    let low = here g (goal.at.returns-in-Atom g c).In-ok-command in
+    let low = here g (goal.at.returns-in-Atom g c).In_ok-command in
     let none : c.args.cursor.now.due ≡ 0 = omega (arith, c.if-cursor-gt0.false) in
-    let read = c.in-ok-command.ensures in
+    let read = c.in_ok-command.ensures in
     let cursor = c.args.cursor.now in
     record {
       took = λ used pending m. subst (Took (Comes (g.S.Store.rules c.args.texts.now.store.now) c.args.texts.now.body.now c.args.slip.now c.args.table.now used
@@ -106,9 +106,9 @@ returns-in-Atom g c =
 
 pub returns-in-Pair : goal.returns-in-Pair
 returns-in-Pair g c =
-    let low = here g (goal.at.returns-in-Pair g c).In-ok-command in
+    let low = here g (goal.at.returns-in-Pair g c).In_ok-command in
     let none : c.args.cursor.now.due ≡ 0 = omega (arith, c.if-cursor-gt0.false) in
-    let read = c.in-ok-command.ensures in
+    let read = c.in_ok-command.ensures in
     let cursor = c.args.cursor.now in
     record {
       took = λ used pending m. subst (Took (Comes (g.S.Store.rules c.args.texts.now.store.now) c.args.texts.now.body.now c.args.slip.now c.args.table.now used

@@ -11,11 +11,11 @@ use Rattle.checker.proofs.terms.read_terms.Goals as goal
 pub loop-k-init : goal.loop-k-init
 loop-k-init c = none_read c.args.slip.now c.args.table.now c.args.first c.args.place
 
-pub returns-in-err-next : goal.returns-in-err-next
-returns-in-err-next c =
-    let p = err_from_is_err_and c.from-residual.result c.from-residual.ensures.1 in
+pub returns-in_err-next : goal.returns-in_err-next
+returns-in_err-next c =
+    let p = err_from_is_err_and c.from_residual.result c.from_residual.ensures.1 in
     let s = c.loop-k.invariant in
-    let fault = fault_read (known c.args.slip.now c.type-inv.slip) s c.args.count _ c.loop-k-test.true c.in-err-next.ensures in
+    let fault = fault_read (known c.args.slip.now c.type_inv.slip) s c.args.count _ c.loop-k-test.true c.in_err-next.ensures in
     record {
       value = p.1 ∙ ap Err p.2 ∙ fault;
       listed = λ ts q e. (let other = fault ∙ ap where_to e in let z : ◌≡◌ {A = ℕ} 0 1 = cc in absurd (omega arith));
@@ -24,7 +24,7 @@ returns-in-err-next c =
 
 pub loop-k-preserved : goal.loop-k-preserved
 loop-k-preserved c =
-    one_more_read (known c.args.slip.now c.type-inv.slip) c.loop-k.invariant c.in-ok-next.next (omega (arith, c.requires.room, c.loop-k.auto.table, c.loop-k-test.true)) c.in-ok-next.ensures
+    one_more_read (known c.args.slip.now c.type_inv.slip) c.loop-k.invariant c.in_ok-next.next (omega (arith, c.requires.room, c.loop-k.auto.table, c.loop-k-test.true)) c.in_ok-next.ensures
 
 pub returns : goal.returns
 returns c =

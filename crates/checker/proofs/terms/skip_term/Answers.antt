@@ -13,39 +13,39 @@ use Rattle.slips.specs.Checker.{unknowns}
 use Rattle.comparing.specs.Streams.{due_after}
 use Rattle.comparing.proofs.Terms.{ends_at, fails_with, one_command, missing, unfit_here}
 use Rattle.checker.proofs.terms.skip_term.Goals as goal
-use Rattle.checker.proofs.terms.skip_term.Goals.{In-Some, After-from-place-reader}
+use Rattle.checker.proofs.terms.skip_term.Goals.{In-Some, After-from_place-reader}
 
 pub loop-due-init : goal.loop-due-init
-loop-due-init c = begins Slips unknowns 1 c.from-place-reader.result.place c.from-place-reader.result.bytes.now
+loop-due-init c = begins Slips unknowns 1 c.from_place-reader.result.place c.from_place-reader.result.bytes.now
 
 -- the bytes of the slip are bytes
-bytes : (c : After-from-place-reader) → AllBytes c.from-place-reader.result.bytes.now
-bytes c = subst AllBytes (sym c.from-place-reader.ensures.bytes) (bytes_drop c.args.place c.args.slip.now (known c.args.slip.now c.type-inv.slip))
+bytes : (c : After-from_place-reader) → AllBytes c.from_place-reader.result.bytes.now
+bytes c = subst AllBytes (sym c.from_place-reader.ensures.bytes) (bytes_drop c.args.place c.args.slip.now (known c.args.slip.now c.type_inv.slip))
 
 -- what is read of the reader's bytes is read of the slip
-from_slip : (c : After-from-place-reader) → left (terms unknowns 1 (commands Slips c.args.place (drop c.args.place c.args.slip.now))) ≡ left (terms unknowns 1 (commands Slips c.from-place-reader.result.place c.from-place-reader.result.bytes.now))
-from_slip c = sym (ap₂ (λ p bs. left (terms unknowns 1 (commands Slips p bs))) c.from-place-reader.ensures.place c.from-place-reader.ensures.bytes)
+from_slip : (c : After-from_place-reader) → left (terms unknowns 1 (commands Slips c.args.place (drop c.args.place c.args.slip.now))) ≡ left (terms unknowns 1 (commands Slips c.from_place-reader.result.place c.from_place-reader.result.bytes.now))
+from_slip c = sym (ap₂ (λ p bs. left (terms unknowns 1 (commands Slips p bs))) c.from_place-reader.ensures.place c.from_place-reader.ensures.bytes)
 
-pub returns-in-err-command : goal.returns-in-err-command
-returns-in-err-command c =
-    let d = (goal.at.returns-in-err-command c).After-from-place-reader in
-    let p = err_from_is_err_and c.from-residual.result c.from-residual.ensures.1 in
+pub returns-in_err-command : goal.returns-in_err-command
+returns-in_err-command c =
+    let d = (goal.at.returns-in_err-command c).After-from_place-reader in
+    let p = err_from_is_err_and c.from_residual.result c.from_residual.ensures.1 in
     p.1 ∙ ap Err p.2
-    ∙ fails_with c.args.slip.now 1 c.args.place _ (from_slip d ∙ unfit_here (bytes d) c.loop-due.invariant c.loop-due-test.true _ c.in-err-command.ensures.value)
+    ∙ fails_with c.args.slip.now 1 c.args.place _ (from_slip d ∙ unfit_here (bytes d) c.loop-due.invariant c.loop-due-test.true _ c.in_err-command.ensures.value)
 
-pub returns-in-default : goal.returns-in-default
-returns-in-default c =
-    let d = (goal.at.returns-in-default c).After-from-place-reader in
+pub returns-in_default : goal.returns-in_default
+returns-in_default c =
+    let d = (goal.at.returns-in_default c).After-from_place-reader in
     ap (λ p. Err (RuleFault.TermMissing p)) c.place-at.ensures
-    ∙ fails_with c.args.slip.now 1 c.args.place _ (from_slip d ∙ missing (bytes d) c.loop-due.invariant c.loop-due-test.true (ap Ok (sym c.in-default.is) ∙ c.in-ok-command.ensures.value))
+    ∙ fails_with c.args.slip.now 1 c.args.place _ (from_slip d ∙ missing (bytes d) c.loop-due.invariant c.loop-due-test.true (ap Ok (sym c.in_default.is) ∙ c.in_ok-command.ensures.value))
 
 -- the command that was taken
 turn : (c : In-Some) (m : ℕ) → m ≡ then_due (c.loop-due.due - 1) c.in-Some.command
-    → Sofar Slips unknowns 1 c.from-place-reader.result.place c.from-place-reader.result.bytes.now m c.command.new.self.place c.command.new.self.bytes.now
+    → Sofar Slips unknowns 1 c.from_place-reader.result.place c.from_place-reader.result.bytes.now m c.command.new.self.place c.command.new.self.bytes.now
     × (length c.command.new.self.bytes.now < length c.loop-due.reader.bytes.now)
 turn c m e =
-    let d = (goal.at.In-Some c).After-from-place-reader in
-    let h = c.in-ok-command.ensures in
+    let d = (goal.at.In-Some c).After-from_place-reader in
+    let h = c.in_ok-command.ensures in
     one_command (bytes d) c.loop-due.invariant c.loop-due-test.true _ c.in-Some.command m _ _ c.in-Some.is h.value h.bytes h.place e
 
 then_is : (n : ℕ) (k : Command) → due_after n k ≡ then_due n k
@@ -53,20 +53,20 @@ then_is n (Command.Atom a) = refl
 then_is n (Command.Var x) = refl
 then_is n Command.Pair = omega arith
 
-pub due-after-due-requires : goal.due-after-due-requires
-due-after-due-requires c =
-    let low : c.loop-due.due ≤ 1 + length c.args.slip.now = omega (arith, c.loop-due.invariant.room, ap length c.from-place-reader.ensures.bytes, length-drop c.args.place c.args.slip.now) in
+pub due_after-due-requires : goal.due_after-due-requires
+due_after-due-requires c =
+    let low : c.loop-due.due ≤ 1 + length c.args.slip.now = omega (arith, c.loop-due.invariant.room, ap length c.from_place-reader.ensures.bytes, length-drop c.args.place c.args.slip.now) in
     record { some = c.loop-due-test.true; room = omega (arith, low) }
 
 pub loop-due-smaller : goal.loop-due-smaller
-loop-due-smaller c = (turn (goal.at.loop-due-smaller c).In-Some c.due-after-due.result (c.due-after-due.ensures ∙ then_is (c.loop-due.due - 1) c.in-Some.command)).1
+loop-due-smaller c = (turn (goal.at.loop-due-smaller c).In-Some c.due_after-due.result (c.due_after-due.ensures ∙ then_is (c.loop-due.due - 1) c.in-Some.command)).1
 
 pub loop-due-preserved : goal.loop-due-preserved
-loop-due-preserved c = (turn (goal.at.loop-due-preserved c).In-Some c.due-after-due.result (c.due-after-due.ensures ∙ then_is (c.loop-due.due - 1) c.in-Some.command)).0
+loop-due-preserved c = (turn (goal.at.loop-due-preserved c).In-Some c.due_after-due.result (c.due_after-due.ensures ∙ then_is (c.loop-due.due - 1) c.in-Some.command)).0
 
 pub returns : goal.returns
 returns c =
-    let d = (goal.at.returns c).After-from-place-reader in
+    let d = (goal.at.returns c).After-from_place-reader in
     let none : c.loop-due.due ≡ 0 = omega (arith, c.loop-due-test.false) in
     ap Ok c.place.ensures
     ∙ ends_at c.args.slip.now 1 c.args.place _ c.loop-due.reader.bytes.now

@@ -17,8 +17,8 @@ loop-rule-init g c =
     let n : length c.new-clauses.result.table ≡ 1024 = search rules in
     copied_none c.args.text.now c.new-clauses.result c.new-clauses.ensures n c.requires.used
 
-pub copy-rule-requires : goal.copy-rule-requires
-copy-rule-requires g c =
+pub copy_rule-requires : goal.copy_rule-requires
+copy_rule-requires g c =
     let ts = g.S.Store.rules c.args.store.now in
     let i = c.loop-rule.rule in
     let there : i < length ts = omega (arith, c.count-rule-end.ensures, c.loop-rule-test.true) in
@@ -28,14 +28,14 @@ copy-rule-requires g c =
       used = room_so_far c.args.text.now ts i there c.loop-rule.text c.loop-rule.clauses c.loop-rule.invariant;
     }
 
-pub returns-in-err-copy-rule : goal.returns-in-err-copy-rule
-returns-in-err-copy-rule g c =
+pub returns-in_err-copy_rule : goal.returns-in_err-copy_rule
+returns-in_err-copy_rule g c =
     let ts = g.S.Store.rules c.args.store.now in
     let i = c.loop-rule.rule in
     let there : i < length ts = omega (arith, c.count-rule-end.ensures, c.loop-rule-test.true) in
-    let p = err_from_is_err_and c.from-residual.result c.from-residual.ensures.1 in
-    let e = c.in-err-copy-rule.ensures in
-    subst (Gathered c.args.text.now ts c.copy-rule.new.self) (sym p.1)
+    let p = err_from_is_err_and c.from_residual.result c.from_residual.ensures.1 in
+    let e = c.in_err-copy_rule.ensures in
+    subst (Gathered c.args.text.now ts c.copy_rule.new.self) (sym p.1)
     (p.2 ∙ e.0, too_many c.args.text.now ts i there c.loop-rule.text c.loop-rule.clauses c.loop-rule.invariant e.1)
 
 pub clause-requires : goal.clause-requires
@@ -45,15 +45,15 @@ clause-requires g c =
     let there : i < length ts = omega (arith, c.count-rule-end.ensures, c.loop-rule-test.true) in
     let few : i < 1024 = omega (arith, there, c.requires.few) in
     let f : FitText (get_or ts i []) = fit_text (get_or ts i []) (fit_at ts i (g.S.Store.fit c.args.store.now) there) in
-    let one = c.in-ok-copy-rule.ensures in
+    let one = c.in_ok-copy_rule.ensures in
     record {
       there = (
         f.r,
         f.within,
-        subst (Holds c.copy-rule.new.self.bytes c.loop-rule.text.used) f.bytes
-            (rule_holds c.args.text.now ts i there c.loop-rule.text c.loop-rule.clauses c.loop-rule.invariant c.copy-rule.new.self one c.requires.size few),
+        subst (Holds c.copy_rule.new.self.bytes c.loop-rule.text.used) f.bytes
+            (rule_holds c.args.text.now ts i there c.loop-rule.text c.loop-rule.clauses c.loop-rule.invariant c.copy_rule.new.self one c.requires.size few),
       );
-      size = size_after c.args.text.now ts i there c.loop-rule.text c.loop-rule.clauses c.loop-rule.invariant c.copy-rule.new.self one c.requires.size few;
+      size = size_after c.args.text.now ts i there c.loop-rule.text c.loop-rule.clauses c.loop-rule.invariant c.copy_rule.new.self one c.requires.size few;
     }
 
 pub loop-rule-preserved : goal.loop-rule-preserved
@@ -63,15 +63,15 @@ loop-rule-preserved g c =
     let there : i < length ts = omega (arith, c.count-rule-end.ensures, c.loop-rule-test.true) in
     let few : i < 1024 = omega (arith, there, c.requires.few) in
     let f : FitText (get_or ts i []) = fit_text (get_or ts i []) (fit_at ts i (g.S.Store.fit c.args.store.now) there) in
-    let one = c.in-ok-copy-rule.ensures in
-    let holds : Holds c.copy-rule.new.self.bytes c.loop-rule.text.used (rule_bytes f.r) =
-    subst (Holds c.copy-rule.new.self.bytes c.loop-rule.text.used) f.bytes
-    (rule_holds c.args.text.now ts i there c.loop-rule.text c.loop-rule.clauses c.loop-rule.invariant c.copy-rule.new.self one c.requires.size few) in
+    let one = c.in_ok-copy_rule.ensures in
+    let holds : Holds c.copy_rule.new.self.bytes c.loop-rule.text.used (rule_bytes f.r) =
+    subst (Holds c.copy_rule.new.self.bytes c.loop-rule.text.used) f.bytes
+    (rule_holds c.args.text.now ts i there c.loop-rule.text c.loop-rule.clauses c.loop-rule.invariant c.copy_rule.new.self one c.requires.size few) in
     let is : c.clause.result ≡ clause_of c.loop-rule.text.used (rule_or_none (rule (get_or ts i []))) =
     c.clause.ensures f.r f.within holds ∙ ap (clause_of c.loop-rule.text.used) (sym (fit_rule (get_or ts i []) f)) in
     let next : i + 1 ≡ suc i = omega arith in
-    subst (λ (n : ℕ). AllCopied c.args.text.now (take n ts) c.copy-rule.new.self c.push.new.self) (sym next)
-    (copied_more c.args.text.now ts i there c.loop-rule.text c.loop-rule.clauses c.loop-rule.invariant c.copy-rule.new.self one c.requires.size few
+    subst (λ (n : ℕ). AllCopied c.args.text.now (take n ts) c.copy_rule.new.self c.push.new.self) (sym next)
+    (copied_more c.args.text.now ts i there c.loop-rule.text c.loop-rule.clauses c.loop-rule.invariant c.copy_rule.new.self one c.requires.size few
     c.push.new.self c.clause.result is c.push.ensures.table c.push.ensures.count)
 
 pub returns : goal.returns

@@ -6,30 +6,30 @@ use Rattle.reading.specs.Views.{rule_view}
 use Rattle.search.specs.Facts.{told, buffer_with, result, buffer_after}
 use Rattle.search.proofs.Common.{Fact, fact, all_bytes, both_ready, both_few, both_common, both_read}
 use Rattle.search.proofs.facts.unify_facts.Goals as goal
-use Rattle.search.proofs.facts.unify_facts.Goals.{In-ok-rule, In-ok-fact}
+use Rattle.search.proofs.facts.unify_facts.Goals.{In_ok-rule, In_ok-fact}
 
-left_fact : (c : In-ok-rule) → Fact c.args.left.now (rule_view c.in-ok-rule.rule)
-left_fact c = fact c.args.left.now (rule_view c.in-ok-rule.rule) (all_bytes _ c.type-inv.left) c.in-ok-rule.ensures
+left_fact : (c : In_ok-rule) → Fact c.args.left.now (rule_view c.in_ok-rule.rule)
+left_fact c = fact c.args.left.now (rule_view c.in_ok-rule.rule) (all_bytes _ c.type_inv.left) c.in_ok-rule.ensures
 
-right_fact : (c : In-ok-fact) → Fact c.args.right.now (rule_view c.in-ok-fact.fact)
-right_fact c = fact c.args.right.now (rule_view c.in-ok-fact.fact) (all_bytes _ c.type-inv.right) c.in-ok-fact.ensures
+right_fact : (c : In_ok-fact) → Fact c.args.right.now (rule_view c.in_ok-fact.fact)
+right_fact c = fact c.args.right.now (rule_view c.in_ok-fact.fact) (all_bytes _ c.type_inv.right) c.in_ok-fact.ensures
 
 pub load-tables-requires : goal.load-tables-requires
 load-tables-requires c =
-    let a = left_fact (goal.at.load-tables-requires c).In-ok-rule in
-    let b = right_fact (goal.at.load-tables-requires c).In-ok-fact in
+    let a = left_fact (goal.at.load-tables-requires c).In_ok-rule in
+    let b = right_fact (goal.at.load-tables-requires c).In_ok-fact in
     omega (arith, a.short, b.short)
 
 pub overflow-cast-head : goal.overflow-cast-head
 overflow-cast-head c =
-    let b = right_fact (goal.at.overflow-cast-head c).In-ok-fact in
+    let b = right_fact (goal.at.overflow-cast-head c).In_ok-fact in
     let s = b.short in
     search rules
 
 pub settle-requires : goal.settle-requires
 settle-requires c =
-    let a = left_fact (goal.at.settle-requires c).In-ok-rule in
-    let b = right_fact (goal.at.settle-requires c).In-ok-fact in
+    let a = left_fact (goal.at.settle-requires c).In_ok-rule in
+    let b = right_fact (goal.at.settle-requires c).In_ok-fact in
     let t = c.load-tables.result in
     let l = c.load-tables.ensures in
     record {
@@ -40,8 +40,8 @@ settle-requires c =
 
 pub returns : goal.returns
 returns c =
-    let a = left_fact (goal.at.returns c).In-ok-rule in
-    let b = right_fact (goal.at.returns c).In-ok-fact in
+    let a = left_fact (goal.at.returns c).In_ok-rule in
+    let b = right_fact (goal.at.returns c).In_ok-fact in
     let t = c.load-tables.result in
     let l = c.load-tables.ensures in
     let is = both_common a b t.text.bytes t.cells l.goal l.head l.size l.many l.free l.used l.newest in

@@ -52,16 +52,16 @@ returns-else-x-y t c =
       ends = g.leads _ _ _ (case_left _ _ c.in-Open.x c.in-Open.ensures.2 (var_other _ _ _ c.in-Open-other.ensures.2 c.if-x-y.false) c.assign.ensures.ends);
     }
 
-pub returns-in-default : goal.returns-in-default
-returns-in-default t c =
+pub returns-in_default : goal.returns-in_default
+returns-in_default t c =
     let g = c.rests.invariant in
     record {
-      only = only_then g.only c.assign-in-default.ensures.only;
+      only = only_then g.only c.assign-in_default.ensures.only;
       ends =
           g.leads _ _ _
           (case_left _ _ c.in-Open.x c.in-Open.ensures.2
-          (not_open g.sound c.in-Open.x _ c.shape-other.result c.shape-other.ensures c.in-default.not-Open)
-          c.assign-in-default.ensures.ends);
+          (not_open g.sound c.in-Open.x _ c.shape-other.result c.shape-other.ensures c.in_default.not-Open)
+          c.assign-in_default.ensures.ends);
     }
 
 pub returns-in-Open-other-2 : goal.returns-in-Open-other-2

@@ -7,8 +7,8 @@ use Rattle.stores.proofs.writing.copy_rule.Goals as goal
 pub loop-byte-init : goal.loop-byte-init
 loop-byte-init g c = (omega arith, paste-zero c.args.out.now c.args.place (get_or (g.S.Store.rules c.args.store.now) c.args.rule []))
 
-pub overflow-add-at : goal.overflow-add-at
-overflow-add-at g c =
+pub overflow_add-at : goal.overflow_add-at
+overflow_add-at g c =
     let ts = g.S.Store.rules c.args.store.now in
     let b = byte_some ts c.args.rule c.requires.there c.loop-byte.at c.in-Some.byte c.in-Some.ensures in
     let short : length (get_or ts c.args.rule []) ≤ 517 = fit_short (get_or ts c.args.rule []) (fit_at ts c.args.rule (g.S.Store.fit c.args.store.now) (omega (arith, c.requires.there))) in

@@ -20,15 +20,15 @@ used c =
     ∙ all_held t.count t.ends t.bytes (rules_on t) c.args.self.now.held
 
 few : (c : After-begin) → length (rules_on c.args.self.now.table) < 128
-few c = omega (arith, c.args.self.now.held.0, c.count-count.ensures, c.if-count-ge-MOST-RULES.false)
+few c = omega (arith, c.args.self.now.held.0, c.count-count.ensures, c.if-count-ge-MOST_RULES.false)
 
 read : (c : After-begin) → (r : Rule) × (rule c.args.rule.now ≡ Ok r)
-read c = was_read c.args.rule.now (rule_view c.in-ok-read-rule.field-0) c.in-ok-read-rule.ensures
+read c = was_read c.args.rule.now (rule_view c.in_ok-read_rule.field-0) c.in_ok-read_rule.ensures
 
-pub overflow-sub-begin : goal.overflow-sub-begin
-overflow-sub-begin c =
+pub overflow_sub-begin : goal.overflow_sub-begin
+overflow_sub-begin c =
     let t = c.args.self.now.table in
-    omega (arith, used (goal.at.overflow-sub-begin c).After-begin, light_held t.count t.ends t.bytes (rules_on t) c.args.self.now.held)
+    omega (arith, used (goal.at.overflow_sub-begin c).After-begin, light_held t.count t.ends t.bytes (rules_on t) c.args.self.now.held)
 
 pub returns-then-rule-begin : goal.returns-then-rule-begin
 returns-then-rule-begin c =
@@ -43,7 +43,7 @@ push-requires c =
     let at = (goal.at.push-requires c).After-begin in
     let t = c.args.self.now.table in
     let light = light_held t.count t.ends t.bytes (rules_on t) c.args.self.now.held in
-    record { held = c.args.self.now.held; few = omega (arith, c.count-count.ensures, c.if-count-ge-MOST-RULES.false); room = omega (arith, used at, c.if-rule-begin.false) }
+    record { held = c.args.self.now.held; few = omega (arith, c.count-count.ensures, c.if-count-ge-MOST_RULES.false); room = omega (arith, used at, c.if-rule-begin.false) }
 
 -- the list with the rule
 put : (c : After-push) → rules_on c.push.new.self ≡ rules_on c.args.self.now.table ++ c.args.rule.now ∷ []
@@ -55,7 +55,7 @@ invariant-of-self c =
     let t = c.push.new.self in
     let b = c.args.self.now in
     let x = c.args.rule.now in
-    let fits : all_fit (rules_on t) ≡ true = subst (λ l. all_fit l ≡ true) (sym (put (goal.at.invariant-of-self c).After-push)) (fit_push (rules_on b.table) x b.fit (fit_told x (read at).0 (known x c.type-inv.rule) (read at).1)) in
+    let fits : all_fit (rules_on t) ≡ true = subst (λ l. all_fit l ≡ true) (sym (put (goal.at.invariant-of-self c).After-push)) (fit_push (rules_on b.table) x b.fit (fit_told x (read at).0 (known x c.type_inv.rule) (read at).1)) in
     (held_again t.count t.ends t.bytes _ c.push.ensures, (fits, tt))
 
 pub returns : goal.returns

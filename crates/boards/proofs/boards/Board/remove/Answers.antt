@@ -20,5 +20,5 @@ invariant-of-self c =
 pub returns : goal.returns
 returns c =
     let b = c.args.self.now in
-    let k = taken_down (rules_on b.table) c.args.rule (omega (arith, b.held.0, c.count.ensures, c.if-rule-count.false)) in
+    let k = taken_down (rules_on b.table) c.args.rule (omega (arith, b.held.0, c.count.ensures, c.if-rule_count.false)) in
     record { value = k.value; after = gone (goal.at.returns c).After-remove ∙ k.after_it }

@@ -15,11 +15,11 @@ begins c = let t = c.args.self.now in c.begin-begin.ensures ∙ all_held t.count
 room : (c : After-begin-begin) → c.begin-begin.result + length c.args.text.now ≤ 8192
 room c = omega (arith, begins c, c.requires.room)
 
-pub overflow-add-end : goal.overflow-add-end
-overflow-add-end c = let l = room (goal.at.overflow-add-end c).After-begin-begin in search rules
+pub overflow_add-end : goal.overflow_add-end
+overflow_add-end c = let l = room (goal.at.overflow_add-end c).After-begin-begin in search rules
 
-pub slice-bounds-copy-from-slice-end : goal.slice-bounds-copy-from-slice-end
-slice-bounds-copy-from-slice-end c = let l = room (goal.at.slice-bounds-copy-from-slice-end c).After-begin-begin in search rules
+pub slice-bounds-copy_from_slice-end : goal.slice-bounds-copy_from_slice-end
+slice-bounds-copy_from_slice-end c = let l = room (goal.at.slice-bounds-copy_from_slice-end c).After-begin-begin in search rules
 
 pub overflow-cast-self : goal.overflow-cast-self
 overflow-cast-self c = let l = room (goal.at.overflow-cast-self c).After-begin-begin in search rules
@@ -31,11 +31,11 @@ returns c =
     let b = c.begin-begin.result in
     let e = begins (goal.at.returns c).After-begin-begin in
     let l = room (goal.at.returns c).After-begin-begin in
-    let put = c.copy-from-slice.ensures.after in
+    let put = c.copy_from_slice.ensures.after in
     let k : length x ≡ b + length x - b = omega arith in
     let whole : length t.bytes ≡ 8192 = c.requires.held.4 in
-    let size : total (rules_on t) + length x ≡ b + length c.copy-from-slice.new.self = omega (arith, ap length put) in
-    push_held t.count t.ends t.bytes (rules_on t) c.requires.held x (b + length x) (put_mid b (b + length x - b) t.bytes c.copy-from-slice.new.self)
+    let size : total (rules_on t) + length x ≡ b + length c.copy_from_slice.new.self = omega (arith, ap length put) in
+    push_held t.count t.ends t.bytes (rules_on t) c.requires.held x (b + length x) (put_mid b (b + length x - b) t.bytes c.copy_from_slice.new.self)
     c.requires.few (ap (λ n. n + length x) e)
-    (take-put_mid b (b + length x - b) t.bytes c.copy-from-slice.new.self (total (rules_on t) + length x) size (omega arith) ∙ ap₂ (λ n y. take n t.bytes ++ y) e put)
-    (ap length (put_mid-paste b (b + length x - b) t.bytes c.copy-from-slice.new.self x (length x) put k refl) ∙ length-paste t.bytes b x (length x) (omega arith) (omega arith) ∙ whole)
+    (take-put_mid b (b + length x - b) t.bytes c.copy_from_slice.new.self (total (rules_on t) + length x) size (omega arith) ∙ ap₂ (λ n y. take n t.bytes ++ y) e put)
+    (ap length (put_mid-paste b (b + length x - b) t.bytes c.copy_from_slice.new.self x (length x) put k refl) ∙ length-paste t.bytes b x (length x) (omega arith) (omega arith) ∙ whole)

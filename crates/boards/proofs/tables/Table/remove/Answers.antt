@@ -25,27 +25,27 @@ stands c =
       inside = omega (arith, c.begin-used.ensures);
     }
 
-pub overflow-add-rule : goal.overflow-add-rule
-overflow-add-rule c =
+pub overflow_add-rule : goal.overflow_add-rule
+overflow_add-rule c =
     let t = c.args.self.now in
     let few = few_held t.count t.ends t.bytes (rules_on t) c.requires.held in
     let low : c.args.rule + 1 < 65536 = omega (arith, c.requires.there) in
     search rules
 
-pub move-up-requires : goal.move-up-requires
-move-up-requires c =
-    let s = stands (goal.at.move-up-requires c).After-begin-used in
+pub move_up-requires : goal.move_up-requires
+move_up-requires c =
+    let s = stands (goal.at.move_up-requires c).After-begin-used in
     (omega arith, (s.ordered, omega (arith, c.requires.held.4)))
 
-pub overflow-sub-end : goal.overflow-sub-end
-overflow-sub-end c = let s = stands (goal.at.overflow-sub-end c).After-begin-used in omega arith
+pub overflow_sub-end : goal.overflow_sub-end
+overflow_sub-end c = let s = stands (goal.at.overflow_sub-end c).After-begin-used in omega arith
 
 pub overflow-cast-end : goal.overflow-cast-end
 overflow-cast-end c = let s = stands (goal.at.overflow-cast-end c).After-begin-used in search rules
 
-pub take-out-requires : goal.take-out-requires
-take-out-requires c =
-    let s = stands (goal.at.take-out-requires c).After-begin-used in
+pub take_out-requires : goal.take_out-requires
+take_out-requires c =
+    let s = stands (goal.at.take_out-requires c).After-begin-used in
     let t = c.args.self.now in
     record {
       there = (c.requires.there, omega (arith, c.requires.held.3));
@@ -56,5 +56,5 @@ pub returns : goal.returns
 returns c =
     let t = c.args.self.now in
     removed_held t.count t.ends t.bytes (rules_on t) c.requires.held c.args.rule c.requires.there c.begin-begin.result c.begin-end.result c.begin-used.result
-    c.take-out.new.ends c.move-up.new.bytes c.begin-begin.ensures c.begin-end.ensures c.begin-used.ensures
-    c.take-out.ensures.before c.take-out.ensures.moved (omega (arith, c.requires.held.3)) c.move-up.ensures
+    c.take_out.new.ends c.move_up.new.bytes c.begin-begin.ensures c.begin-end.ensures c.begin-used.ensures
+    c.take_out.ensures.before c.take_out.ensures.moved (omega (arith, c.requires.held.3)) c.move_up.ensures

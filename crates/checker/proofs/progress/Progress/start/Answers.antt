@@ -14,22 +14,22 @@ pub returns : goal.returns
 returns c =
     let slip = c.args.slip.now in
     let v = c.args.variables in
-    let h = c.in-ok-place.ensures in
+    let h = c.in_ok-place.ensures in
     record {
       place =
           ap (λ r. go r Reading (λ p. Ok p)) h.value
-          ∙ ap (λ r. go r (λ e. e) (λ u. go (where_to (terms_at v 2 slip)) Reading (λ p. Ok p))) c.in-ok-open.ensures;
+          ∙ ap (λ r. go r (λ e. e) (λ u. go (where_to (terms_at v 2 slip)) Reading (λ p. Ok p))) c.in_ok-open.ensures;
       begun =
           record {
             sized =
                 record {
-                  table_long = c.read-terms.auto.table ∙ length-replicate {A = ℕ} 32832 0;
+                  table_long = c.read_terms.auto.table ∙ length-replicate {A = ℕ} 32832 0;
                   frames_long = length-replicate {A = Cursor} 513 nowhere;
                   few_terms = omega (arith, c.requires);
                   few_frames = omega arith;
                   few_steps = omega arith;
                 };
-            listed = subst (λ n. (ts : List Term) (q : ℕ) → terms_at v 2 slip ≡ Ok (ts, q) → Listed slip c.read-terms.new.table n 0 ts) (zero-add v) h.listed;
+            listed = subst (λ n. (ts : List Term) (q : ℕ) → terms_at v 2 slip ≡ Ok (ts, q) → Listed slip c.read_terms.new.table n 0 ts) (zero-add v) h.listed;
             one_frame = refl;
             at_query = refl;
             no_step = refl;

@@ -54,7 +54,7 @@ over c =
     let inv = c.lines.invariant in
     let p = place s.machine in
     let e = c.settle.ensures in
-    let at = done_at s₀ s c.match-self.self c.settle.new.self a n inv c.if-allowance-gt-MOST-TRIES.false c.match-self.word in
+    let at = done_at s₀ s c.match-self.self c.settle.new.self a n inv c.if-allowance-gt-MOST_TRIES.false c.match-self.word in
     let here = λ (v : Word) (is : c.match-self.word ≡ v) (same : c.match-self.self ≡ s). at v is (ap rules_of same) (ap query_of same) (ap (λ (x : Search). x.tries) same) (ap (λ (x : Search). x.answers) same) (ap (λ (x : Search). place x.machine) same) in
     elim c.match-self.branch [
       | in-Standing-default+then-not-back w ↦

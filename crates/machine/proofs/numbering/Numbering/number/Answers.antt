@@ -10,8 +10,8 @@ returns-then-known c =
       numbers = λ used xs l n. (numbers_known n c.args.cell l c.if-known.true).0;
     }
 
-pub overflow-add-self : goal.overflow-add-self
-overflow-add-self c = omega (arith, numbers_few c.requires.3, c.requires.3.room)
+pub overflow_add-self : goal.overflow_add-self
+overflow_add-self c = omega (arith, numbers_few c.requires.3, c.requires.3.room)
 
 pub returns : goal.returns
 returns c =

@@ -11,8 +11,8 @@ clause-clause-requires c =
     let g = true_good s c.requires.good in
     omega (arith, can_rule s g c.requires.due, g.count)
 
-pub try-rule-requires : goal.try-rule-requires
-try-rule-requires c =
+pub try_rule-requires : goal.try_rule-requires
+try_rule-requires c =
     let s = c.args.self.now in
     let g = true_good s c.requires.good in
     record {
@@ -20,21 +20,21 @@ try-rule-requires c =
       room = (can_try s g c.requires.due c.clause-clause.result c.clause-clause.ensures).shallow;
     }
 
-pub overflow-add-self : goal.overflow-add-self
-overflow-add-self c =
+pub overflow_add-self : goal.overflow_add-self
+overflow_add-self c =
     let s = c.args.self.now in
     let g = true_good s c.requires.good in
     let l = can_rule s g c.requires.due in
     let m = g.count in
     search rules
 
-pub returns-then-not-try-rule : goal.returns-then-not-try-rule
-returns-then-not-try-rule c =
+pub returns-then-not-try_rule : goal.returns-then-not-try_rule
+returns-then-not-try_rule c =
     let s = c.args.self.now in
     let g = true_good s c.requires.good in
     let clause = c.clause-clause.result in
-    let e = c.if-not-try-rule.ensures in
-    let s' : State = record { tables = c.try-rule.new.self; clauses = s.clauses; question = s.question; goals = s.goals; due = s.due + 1 } in
+    let e = c.if-not-try_rule.ensures in
+    let s' : State = record { tables = c.try_rule.new.self; clauses = s.clauses; question = s.question; goals = s.goals; due = s.due + 1 } in
     let book : SameBook s s' = record { text = e.text; clauses = refl; question = refl } in
     let next : s.due + 1 ≡ suc s.due = omega arith in
     record {
@@ -43,18 +43,18 @@ returns-then-not-try-rule c =
       place = failed_is s g c.requires.due clause c.clause-clause.ensures s' book e.tried (e.left refl) refl next;
     }
 
-took : (c : goal.After-goals-with-arg·1) → Took c.args.self.now c.clause-clause.result c.try-rule.new.self
+took : (c : goal.After-goals_with-arg·1) → Took c.args.self.now c.clause-clause.result c.try_rule.new.self
 took c =
-    let e = c.if-not-try-rule.ensures in
+    let e = c.if-not-try_rule.ensures in
     record { text = e.text; tried = e.tried; steps = e.steps refl; depth = e.depth refl }
 
-pub goals-with-self-requires : goal.goals-with-self-requires
-goals-with-self-requires c =
+pub goals_with-self-requires : goal.goals_with-self-requires
+goals_with-self-requires c =
     let s = c.args.self.now in
     let g = true_good s c.requires.good in
     record {
-      climbing = λ e. climbing s g c.requires.due c.clause-clause.result c.clause-clause.ensures c.try-rule.new.self (took c);
-      depth = deep_enough s g c.requires.due c.clause-clause.result c.clause-clause.ensures c.try-rule.new.self (took c);
+      climbing = λ e. climbing s g c.requires.due c.clause-clause.result c.clause-clause.ensures c.try_rule.new.self (took c);
+      depth = deep_enough s g c.requires.due c.clause-clause.result c.clause-clause.ensures c.try_rule.new.self (took c);
     }
 
 pub returns : goal.returns
@@ -62,10 +62,10 @@ returns c =
     let s = c.args.self.now in
     let g = true_good s c.requires.good in
     let clause = c.clause-clause.result in
-    let t = c.try-rule.new.self in
-    let e = c.if-not-try-rule.ensures in
-    let o = c.goals-with-self.ensures in
-    let s' : State = record { tables = t; clauses = s.clauses; question = s.question; goals = c.goals-with-self.result; due = 0 } in
+    let t = c.try_rule.new.self in
+    let e = c.if-not-try_rule.ensures in
+    let o = c.goals_with-self.ensures in
+    let s' : State = record { tables = t; clauses = s.clauses; question = s.question; goals = c.goals_with-self.result; due = 0 } in
     let book : SameBook s s' = record { text = e.text; clauses = refl; question = refl } in
     let k : Took s clause t = record { text = e.text; tried = e.tried; steps = e.steps refl; depth = e.depth refl } in
     record {

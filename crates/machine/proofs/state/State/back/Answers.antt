@@ -29,8 +29,8 @@ leave-step-requires c =
     let more : s.tables.branch.depth ≡ suc (s.tables.branch.depth - 1) = omega arith in
     record { steps = (omega arith, g.depth); since = (_, newest_since s g (s.tables.branch.depth - 1) more) }
 
-pub overflow-add-self : goal.overflow-add-self
-overflow-add-self c =
+pub overflow_add-self : goal.overflow_add-self
+overflow_add-self c =
     let s = c.args.self.now in
     let g = true_good s c.requires in
     let more : s.tables.branch.depth ≡ suc (s.tables.branch.depth - 1) = omega arith in

@@ -8,14 +8,14 @@ returns-then-self-eq0 c = nothing_due c.args.self.now (true_good c.args.self.now
 pub returns-then-self : goal.returns-then-self
 returns-then-self c = no_rule_due c.args.self.now (true_good c.args.self.now c.requires) (omega arith) (omega arith)
 
-pub returns-then-depth-ge-MOST-STEPS : goal.returns-then-depth-ge-MOST-STEPS
-returns-then-depth-ge-MOST-STEPS c = deep_due c.args.self.now (true_good c.args.self.now c.requires) (omega arith) (omega arith) (omega arith)
+pub returns-then-depth-ge-MOST_STEPS : goal.returns-then-depth-ge-MOST_STEPS
+returns-then-depth-ge-MOST_STEPS c = deep_due c.args.self.now (true_good c.args.self.now c.requires) (omega arith) (omega arith) (omega arith)
 
 pub clause-clause-requires : goal.clause-clause-requires
 clause-clause-requires c = let g = true_good c.args.self.now c.requires in omega (arith, g.count)
 
-pub overflow-sub-self : goal.overflow-sub-self
-overflow-sub-self c = cells_room c.args.self.now (true_good c.args.self.now c.requires)
+pub overflow_sub-self : goal.overflow_sub-self
+overflow_sub-self c = cells_room c.args.self.now (true_good c.args.self.now c.requires)
 
 pub returns-then-clause-self : goal.returns-then-clause-self
 returns-then-clause-self c = cells_due c.args.self.now (true_good c.args.self.now c.requires) c.clause-clause.result c.clause-clause.ensures (omega arith) (omega arith) (omega arith) (omega arith)

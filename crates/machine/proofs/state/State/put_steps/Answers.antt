@@ -14,8 +14,8 @@ clause-clause-requires c =
     let s = c.args.self.now in
     step_rule s (true_good s c.requires.good) c.args.view.now c.requires.lent c.loop-i.i (omega arith) c.step-step.result c.step-step.ensures
 
-pub write-step-requires : goal.write-step-requires
-write-step-requires c =
+pub write_step-requires : goal.write_step-requires
+write_step-requires c =
     let s = c.args.self.now in
     let g = true_good s c.requires.good in
     let v = c.args.view.now in
@@ -26,18 +26,18 @@ write-step-requires c =
       met = step_met s g v c.requires.lent c.loop-i.i (omega arith) c.step-step.result c.step-step.ensures c.loop-i.invariant;
     }
 
-pub returns-then-not-write-step : goal.returns-then-not-write-step
-returns-then-not-write-step c =
+pub returns-then-not-write_step : goal.returns-then-not-write_step
+returns-then-not-write_step c =
     let s = c.args.self.now in
     step_over s (true_good s c.requires.good) c.args.view.now c.requires.lent c.loop-i.i (omega arith) c.step-step.result c.step-step.ensures
-    c.clause-clause.result c.clause-clause.ensures c.loop-i.invariant c.write-step.ensures.puts c.if-not-write-step.true
+    c.clause-clause.result c.clause-clause.ensures c.loop-i.invariant c.write_step.ensures.puts c.if-not-write_step.true
 
 pub loop-i-preserved : goal.loop-i-preserved
 loop-i-preserved c =
     let s = c.args.self.now in
     step_put s (true_good s c.requires.good) c.args.view.now c.requires.lent c.loop-i.i (omega arith) c.step-step.result c.step-step.ensures
-    c.clause-clause.result c.clause-clause.ensures c.loop-i.invariant c.write-step.ensures.puts c.if-not-write-step.false
-    (c.write-step.ensures.met c.if-not-write-step.false)
+    c.clause-clause.result c.clause-clause.ensures c.loop-i.invariant c.write_step.ensures.puts c.if-not-write_step.false
+    (c.write_step.ensures.met c.if-not-write_step.false)
 
 pub returns : goal.returns
 returns c =

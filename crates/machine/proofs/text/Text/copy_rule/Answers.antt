@@ -29,7 +29,7 @@ returns g c =
     let ts = g.S.Store.rules c.args.store.now in
     let t = get_or ts c.args.rule [] in
     let i = c.loop-byte.invariant in
-    let l = byte_none ts c.args.rule c.requires.there c.loop-byte.at c.in-default.ensures in
+    let l = byte_none ts c.args.rule c.requires.there c.loop-byte.at c.in_default.ensures in
     let all : take c.loop-byte.at t ≡ t = take_all c.loop-byte.at t l in
     record {
       room = omega (arith, i.0, i.1, i.2, l);

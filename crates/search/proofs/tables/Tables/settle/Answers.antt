@@ -5,8 +5,8 @@ use Rattle.search.proofs.tables.Tables.settle.Goals as goal
 
 pub instance-requires : goal.instance-requires
 instance-requires c =
-    let s = settled c.requires.ready c.try-rule.ensures.tried c.if-not-try-rule.false in
-    let t = ap (λ (x : Text). x.bytes) c.try-rule.ensures.text in
+    let s = settled c.requires.ready c.try_rule.ensures.tried c.if-not-try_rule.false in
+    let t = ap (λ (x : Text). x.bytes) c.try_rule.ensures.text in
     let v = c.view.ensures in
     record {
       sound = sound_as t v.used v.cells v.newest s.sound;

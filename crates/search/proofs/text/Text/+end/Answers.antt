@@ -7,16 +7,16 @@ use Rattle.search.proofs.text.Text.+end.Goals as goal
 pub bounds-self-place : goal.bounds-self-place
 bounds-self-place t c = let i = inside _ _ _ _ c.requires.2 in search rules
 
-pub overflow-add-result : goal.overflow-add-result
-overflow-add-result t c =
+pub overflow_add-result : goal.overflow_add-result
+overflow_add-result t c =
     let i = inside _ _ _ _ c.requires.2 in let l = skip_atom _ _ _ _ c.requires.2 c.if-tag-eq-ATOM.true in search rules
 
-pub overflow-add-result-then-tag-eq-VARIABLE : goal.overflow-add-result-then-tag-eq-VARIABLE
-overflow-add-result-then-tag-eq-VARIABLE t c =
+pub overflow_add-result-then-tag-eq-VARIABLE : goal.overflow_add-result-then-tag-eq-VARIABLE
+overflow_add-result-then-tag-eq-VARIABLE t c =
     let i = inside _ _ _ _ c.requires.2 in let l = skip_variable _ _ _ _ c.requires.2 c.if-tag-eq-VARIABLE.true in search rules
 
-pub overflow-add-place : goal.overflow-add-place
-overflow-add-place t c = let i = inside _ _ _ _ c.requires.2 in search rules
+pub overflow_add-place : goal.overflow_add-place
+overflow_add-place t c = let i = inside _ _ _ _ c.requires.2 in search rules
 
 pub end-middle-requires : goal.end-middle-requires
 end-middle-requires t c =

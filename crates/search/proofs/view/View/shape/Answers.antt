@@ -18,8 +18,8 @@ returns-then-tag-eq-ATOM c = sym c.looking.invariant.3 ∙ form_atom c.requires.
 pub bounds-text-place-in-looking : goal.bounds-text-place-in-looking
 bounds-text-place-in-looking c = let i = (stands_variable c.looking.invariant.2 c.if-tag-ne-VARIABLE.false).0 in search rules
 
-pub overflow-add-cell-in-looking : goal.overflow-add-cell-in-looking
-overflow-add-cell-in-looking c =
+pub overflow_add-cell-in-looking : goal.overflow_add-cell-in-looking
+overflow_add-cell-in-looking c =
     let v = stands_variable c.looking.invariant.2 c.if-tag-ne-VARIABLE.false in let r = c.requires.sound.room in let f = c.requires.sound.few in search rules
 
 pub bounds-self-cell : goal.bounds-self-cell

@@ -22,8 +22,8 @@ fewer c =
     let long : c.len-2.result ≡ length (get_or (lists b.rules) c.args.rule []) = c.len-2.ensures ∙ c.remove-text.result.ok.0 ∙ ap length (sym same) in
     omega (arith, ap total (gone c), total_without (lists b.rules) c.args.rule (omega (arith, length_lists b.rules)), b.counted)
 
-pub overflow-sub-self : goal.overflow-sub-self
-overflow-sub-self c = omega (arith, fewer (goal.at.overflow-sub-self c).After-len-2)
+pub overflow_sub-self : goal.overflow_sub-self
+overflow_sub-self c = omega (arith, fewer (goal.at.overflow_sub-self c).After-len-2)
 
 pub invariant-of-self : goal.invariant-of-self
 invariant-of-self c =

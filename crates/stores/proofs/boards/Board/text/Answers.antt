@@ -12,9 +12,9 @@ pub returns : goal.returns
 returns c =
     let b = c.args.self.now in
     let here : c.args.rule < vec_len b.rules = omega (arith, c.len.ensures, c.if-rule-len.false) in
-    let same = c.as-slice.ensures.value ∙ sym (list_at b.rules c.args.rule c.index.result.now here c.index.ensures) in
+    let same = c.as_slice.ensures.value ∙ sym (list_at b.rules c.args.rule c.index.result.now here c.index.ensures) in
     let inside : c.args.rule < length (lists b.rules) = omega (arith, length_lists b.rules) in
     record {
-      value = ap Some c.as-slice.ensures.value ∙ text_there b.rules c.args.rule c.index.result.now b.few here c.index.ensures;
+      value = ap Some c.as_slice.ensures.value ∙ text_there b.rules c.args.rule c.index.result.now b.few here c.index.ensures;
       short = subst (λ t. length t ≤ 517) (sym same) (fit_short (get_or (lists b.rules) c.args.rule []) (fit_at (lists b.rules) c.args.rule b.fit inside));
     }

@@ -12,35 +12,35 @@ use Rattle.stores.proofs.Opened.{Went, went, begin, world_more, rule_more, ends,
 use Rattle.stores.proofs.rulebooks.Begins.read.Goals as goal
 use Rattle.stores.proofs.rulebooks.Begins.read.Goals.{In-Some}
 
-pub returns-in-err-book : goal.returns-in-err-book
-returns-in-err-book c =
-    let p = err_from_is_err_and c.from-residual.result c.from-residual.ensures.1 in
+pub returns-in_err-book : goal.returns-in_err-book
+returns-in_err-book c =
+    let p = err_from_is_err_and c.from_residual.result c.from_residual.ensures.1 in
     record {
-      value = refused_first begun c.from-residual.result _ _ p.1 p.2 c.args.bytes.now c.in-err-book.ensures;
+      value = refused_first begun c.from_residual.result _ _ p.1 p.2 c.args.bytes.now c.in_err-book.ensures;
       few = subst (λ r. IfOk r (λ b. b.count ≤ 1024)) (sym p.1) tt;
       whole = subst (λ r. IfOk r (λ b. length b.places ≡ 1024)) (sym p.1) tt;
-      known = bytes_told c.args.bytes.now (known c.args.bytes.now c.type-inv.bytes);
+      known = bytes_told c.args.bytes.now (known c.args.bytes.now c.type_inv.bytes);
     }
 
 pub loop-item-init : goal.loop-item-init
-loop-item-init c = begin c.args.bytes.now (book_view c.in-ok-book.book) (replicate 1024 0) (length-replicate {A = ℕ} 1024 0) c.in-ok-book.ensures
+loop-item-init c = begin c.args.bytes.now (book_view c.in_ok-book.book) (replicate 1024 0) (length-replicate {A = ℕ} 1024 0) c.in_ok-book.ensures
 
-pub returns-in-err-item : goal.returns-in-err-item
-returns-in-err-item c =
-    let p = err_from_is_err_and c.from-residual-in-err-item.result c.from-residual-in-err-item.ensures.1 in
+pub returns-in_err-item : goal.returns-in_err-item
+returns-in_err-item c =
+    let p = err_from_is_err_and c.from_residual-in_err-item.result c.from_residual-in_err-item.ensures.1 in
     record {
-      value = refused_later begun c.from-residual-in-err-item.result _ _ p.1 p.2 c.args.bytes.now (book_view c.loop-item.book) c.loop-item.places c.loop-item.invariant c.in-err-item.ensures.value;
+      value = refused_later begun c.from_residual-in_err-item.result _ _ p.1 p.2 c.args.bytes.now (book_view c.loop-item.book) c.loop-item.places c.loop-item.invariant c.in_err-item.ensures.value;
       few = subst (λ r. IfOk r (λ b. b.count ≤ 1024)) (sym p.1) tt;
       whole = subst (λ r. IfOk r (λ b. length b.places ≡ 1024)) (sym p.1) tt;
-      known = bytes_told c.args.bytes.now (known c.args.bytes.now c.type-inv.bytes);
+      known = bytes_told c.args.bytes.now (known c.args.bytes.now c.type_inv.bytes);
     }
 
 -- the book stands after the item
 after : (c : In-Some) (v : ItemView) → item_view c.in-Some.item ≡ v → Went (book_view c.loop-item.book) (book_view c.item.new.self) v
 after c v e =
-    let h = c.in-ok-item.ensures in
+    let h = c.in_ok-item.ensures in
     went (book_view c.loop-item.book) (book_view c.item.new.self) v
-    (subst AllBytes (sym c.loop-item.invariant.same) (known c.args.bytes.now c.type-inv.bytes))
+    (subst AllBytes (sym c.loop-item.invariant.same) (known c.args.bytes.now c.type_inv.bytes))
     (ap (λ x. Ok (Some x)) (sym e) ∙ ap (λ o. Ok (option_map item_view o)) (sym c.in-Some.is) ∙ h.value) h.after
 
 pub overflow-cast-places : goal.overflow-cast-places
@@ -63,18 +63,18 @@ loop-item-smaller c = (after (goal.at.loop-item-smaller c).In-Some (item_view c.
 
 pub loop-item-preserved : goal.loop-item-preserved
 loop-item-preserved c =
-    let v = world_seen c.in-default-item.field-0 c.in-default-item.field-1 in
-    let w = after (goal.at.loop-item-preserved c).In-Some v (ap item_view c.in-default-item.is) in
+    let v = world_seen c.in_default-item.field-0 c.in_default-item.field-1 in
+    let w = after (goal.at.loop-item-preserved c).In-Some v (ap item_view c.in_default-item.is) in
     world_more c.args.bytes.now (book_view c.loop-item.book) (book_view c.item.new.self) c.loop-item.places v c.loop-item.invariant w refl refl
 
 pub returns : goal.returns
 returns c =
-    let h = c.in-ok-item.ensures in
+    let h = c.in_ok-item.ensures in
     let e = ends c.args.bytes.now (book_view c.loop-item.book) (book_view c.item.new.self) c.loop-item.places c.loop-item.invariant
-    (ap (λ o. Ok (option_map item_view o)) (sym c.in-default.is) ∙ h.value) h.after in
+    (ap (λ o. Ok (option_map item_view o)) (sym c.in_default.is) ∙ h.value) h.after in
     record {
       value = ap (λ n. Ok (begun (record { count = n; places = c.loop-item.places }))) c.rules-2.ensures ∙ e.0;
       few = omega (arith, e.1, c.rules-2.ensures);
       whole = c.loop-item.invariant.whole;
-      known = bytes_told c.args.bytes.now (known c.args.bytes.now c.type-inv.bytes);
+      known = bytes_told c.args.bytes.now (known c.args.bytes.now c.type_inv.bytes);
     }

@@ -5,16 +5,16 @@ use Rattle.stores.specs.Begun.{begun, image_rules}
 use Rattle.stores.proofs.Shelved.{accepted, opens, refused}
 use Rattle.stores.proofs.rulebooks.RuleBook.open.Goals as goal
 
-pub returns-in-err-begins : goal.returns-in-err-begins
-returns-in-err-begins c =
-    let p = err_from_is_err_and c.from-residual.result c.from-residual.ensures.1 in
-    refused (λ (b : RuleBook). image_rules b.image.now) c.from-residual.result (book c.args.image.now.bytes.now) _ _ p.1 p.2 c.in-err-begins.ensures.value
+pub returns-in_err-begins : goal.returns-in_err-begins
+returns-in_err-begins c =
+    let p = err_from_is_err_and c.from_residual.result c.from_residual.ensures.1 in
+    refused (λ (b : RuleBook). image_rules b.image.now) c.from_residual.result (book c.args.image.now.bytes.now) _ _ p.1 p.2 c.in_err-begins.ensures.value
 
 pub invariant-of-result : goal.invariant-of-result
 invariant-of-result c =
-    let h = c.in-ok-begins.ensures in
-    let k = accepted (book c.args.image.now.bytes.now) (begun c.in-ok-begins.begins) h.value in
+    let h = c.in_ok-begins.ensures in
+    let k = accepted (book c.args.image.now.bytes.now) (begun c.in_ok-begins.begins) h.value in
     (k.0, (h.known, (h.few, (h.whole, (k.1, tt)))))
 
 pub returns : goal.returns
-returns c = opens (book c.args.image.now.bytes.now) (begun c.in-ok-begins.begins) c.in-ok-begins.ensures.value
+returns c = opens (book c.args.image.now.bytes.now) (begun c.in_ok-begins.begins) c.in_ok-begins.ensures.value
