@@ -41,9 +41,9 @@ buffer_with none buffer = buffer
 buffer_with (some t) buffer = written (encoding Rules t) buffer
 
 -- the result, and the buffer after it; a refusal leaves it as it was
-abbrev pub result : Result (Option Term) SingleFault → List ℕ → Result Unified SingleFault
-result (Ok t) buffer = Ok (told t buffer)
-result (Err e) buffer = Err e
+abbrev pub outcome : Result (Option Term) SingleFault → List ℕ → Result Unified SingleFault
+outcome (Ok t) buffer = Ok (told t buffer)
+outcome (Err e) buffer = Err e
 
 abbrev pub buffer_after : Result (Option Term) SingleFault → List ℕ → List ℕ
 buffer_after (Ok t) buffer = buffer_with t buffer

@@ -4,7 +4,7 @@ ghost use Rattle.bindings.specs.declared.Cell.TheVariants.{Free};
 ghost use Rattle.bindings.specs.Texts.{Holds};
 ghost use Rattle.bindings.specs.Trails.{none_bound};
 ghost use Rattle.search.specs.Tries.{Ready, found, goal_term};
-ghost use Rattle.search.specs.Facts.{instance_by, told, buffer_with, common_of, result, buffer_after};
+ghost use Rattle.search.specs.Facts.{instance_by, told, buffer_with, common_of, outcome, buffer_after};
 
 use crate::attempt::Head;
 use crate::branch::Branch;
@@ -30,14 +30,14 @@ pub enum Unified {
 // Tables over a goal's bytes, with so many variables, and a head's bytes after them.
 fn load(goal: &[u8], variables: u8, head: &[u8]) -> Tables
     requires { length goal.now + length head.now ≤ 16384 }
-    ensures* goal { λ r. ⌜ Holds r.text.bytes 0 goal.now ⌝ }
-    ensures* head { λ r. ⌜ Holds r.text.bytes (length goal.now) head.now ⌝ }
-    ensures* size { λ r. ⌜ length r.text.bytes ≡ 16384 ⌝ }
-    ensures* free { λ r. ⌜ ((i : ℕ) → slice_index_or r.cells.table i Free ≡ Free) ⌝ }
-    ensures* many { λ r. ⌜ length r.cells.table ≡ 2048 ⌝ }
-    ensures* used { λ r. ⌜ r.cells.used ≡ variables ⌝ }
-    ensures* newest { λ r. ⌜ r.cells.newest ≡ none_bound ⌝ }
-    ensures* depth { λ r. ⌜ r.branch.depth ≡ 0 ⌝ }
+    ensures goal { Holds result.text.bytes 0 goal.now }
+    ensures head { Holds result.text.bytes (length goal.now) head.now }
+    ensures size { length result.text.bytes ≡ 16384 }
+    ensures free { ((i : ℕ) → slice_index_or result.cells.table i Free ≡ Free) }
+    ensures many { length result.cells.table ≡ 2048 }
+    ensures used { result.cells.used ≡ variables }
+    ensures newest { result.cells.newest ≡ none_bound }
+    ensures depth { result.branch.depth ≡ 0 }
 {
     let mut text = Text::new();
     let _ = text.append(goal);
@@ -55,8 +55,8 @@ impl Tables {
         requires ready { Ready self.old.text.bytes self.old.cells head goal }
         requires room { self.old.branch.depth < 512 }
         requires few { self.old.cells.used + head.variables ≤ 256 }
-        ensures* told { λ r. ⌜ r ≡ told (instance_by (found self.old.text.bytes self.old.cells head goal) (goal_term self.old.text.bytes self.old.cells goal)) buffer.old ⌝ }
-        ensures* buffer { λ _. ⌜ buffer.new ≡ buffer_with (instance_by (found self.old.text.bytes self.old.cells head goal) (goal_term self.old.text.bytes self.old.cells goal)) buffer.old ⌝ }
+        ensures told { result ≡ told (instance_by (found self.old.text.bytes self.old.cells head goal) (goal_term self.old.text.bytes self.old.cells goal)) buffer.old }
+        ensures buffer { buffer.new ≡ buffer_with (instance_by (found self.old.text.bytes self.old.cells head goal) (goal_term self.old.text.bytes self.old.cells goal)) buffer.old }
     {
         if !self.try_rule(0, head, goal) {
             return Unified::No;
@@ -72,8 +72,8 @@ impl Tables {
 // writes their common instance. In it a variable of the right rule has its own number; one of the left rule has
 // that number and the count of the right one's variables added.
 pub fn unify_facts(left: &[u8], right: &[u8], buffer: &mut [u8]) -> Result<Unified, SingleFault>
-    ensures* result { λ r. ⌜ r ≡ result (common_of left.now right.now) buffer.old ⌝ }
-    ensures* buffer { λ _. ⌜ buffer.new ≡ buffer_after (common_of left.now right.now) buffer.old ⌝ }
+    ensures result { result ≡ outcome (common_of left.now right.now) buffer.old }
+    ensures buffer { buffer.new ≡ buffer_after (common_of left.now right.now) buffer.old }
 {
     let rule = read_rule(left)?;
     let fact = read_rule(right)?;

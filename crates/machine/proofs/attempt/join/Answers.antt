@@ -16,15 +16,15 @@ since c =
       | else-joined w ↦ simp (w.guard-is, c.unify-joined.ensures.only.mark) s
     ]
 
-pub drop_guard-requires : goal.drop_guard-requires
-drop_guard-requires c = (c.args.cells.now, since c)
+pub drop-guard-requires : goal.drop-guard-requires
+drop-guard-requires c = (c.args.cells.now, since c)
 
 pub returns : goal.returns
 returns c =
     elim c.if-joined.branch [
       | then-joined w ↦
           let k : c.if-joined.guard.keep ≡ true = ap (λ (g : Guard). g.keep) w.guard-is ∙ w.keep.ensures.keep in
-          let e : c.drop_guard.new.self.0 ≡ c.if-joined.guard.cells.now = c.drop_guard.ensures.kept k in
+          let e : c.drop-guard.new.self.0 ≡ c.if-joined.guard.cells.now = c.drop-guard.ensures.kept k in
           record {
             cells = λ f. absurd (true_not_false (sym w.if-joined.true ∙ f));
             newest = λ f. absurd (true_not_false (sym w.if-joined.true ∙ f));
@@ -33,8 +33,8 @@ returns c =
           }
       | else-joined w ↦
           let k : c.if-joined.guard.keep ≡ false = ap (λ (g : Guard). g.keep) w.guard-is ∙ c.unify-joined.ensures.only.keep in
-          let e : c.drop_guard.new.self.0 ≡ c.args.cells.now =
-          c.drop_guard.ensures.undone k _ (simp (w.guard-is, c.unify-joined.ensures.only.mark) (c.unify-joined.ensures.only.since c.args.cells.now _ (sound_mark c.requires.sound))) in
+          let e : c.drop-guard.new.self.0 ≡ c.args.cells.now =
+          c.drop-guard.ensures.undone k _ (simp (w.guard-is, c.unify-joined.ensures.only.mark) (c.unify-joined.ensures.only.since c.args.cells.now _ (sound_mark c.requires.sound))) in
           record {
             cells = λ _. search rules;
             newest = λ _. w.newest-is;

@@ -3,7 +3,7 @@ use mathlib.Core.Option.{Option}
 use Rattle.terms.specs.Terms.{Term}
 use Rattle.grammar.specs.declared.faults.SingleFault.{SingleFault}
 use Rattle.reading.specs.Views.{rule_view}
-use Rattle.search.specs.Facts.{told, buffer_with, result, buffer_after}
+use Rattle.search.specs.Facts.{told, buffer_with, outcome, buffer_after}
 use Rattle.search.proofs.Common.{Fact, fact, all_bytes, both_ready, both_few, both_common, both_read}
 use Rattle.search.proofs.facts.unify_facts.Goals as goal
 use Rattle.search.proofs.facts.unify_facts.Goals.{In_ok-rule, In_ok-fact}
@@ -20,9 +20,9 @@ load-tables-requires c =
     let b = right_fact (goal.at.load-tables-requires c).In_ok-fact in
     omega (arith, a.short, b.short)
 
-pub overflow-cast-head : goal.overflow-cast-head
-overflow-cast-head c =
-    let b = right_fact (goal.at.overflow-cast-head c).In_ok-fact in
+pub overflow_cast-head : goal.overflow_cast-head
+overflow_cast-head c =
+    let b = right_fact (goal.at.overflow_cast-head c).In_ok-fact in
     let s = b.short in
     search rules
 
@@ -48,7 +48,7 @@ returns c =
     record {
       result =
           ap Ok (c.settle.ensures.told ∙ ap (λ (o : Option Term). told o c.args.buffer.now) is)
-          ∙ ap (λ (r : Result (Option Term) SingleFault). result r c.args.buffer.now) (sym (both_read a b));
+          ∙ ap (λ (r : Result (Option Term) SingleFault). outcome r c.args.buffer.now) (sym (both_read a b));
       buffer =
           c.settle.ensures.buffer
           ∙ ap (λ (o : Option Term). buffer_with o c.args.buffer.now) is

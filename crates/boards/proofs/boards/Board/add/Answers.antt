@@ -49,13 +49,13 @@ push-requires c =
 put : (c : After-push) → rules_on c.push.new.self ≡ rules_on c.args.self.now.table ++ c.args.rule.now ∷ []
 put c = let t = c.push.new.self in cut_held t.count t.ends t.bytes _ c.push.ensures
 
-pub invariant-of-self : goal.invariant-of-self
-invariant-of-self c =
-    let at = (goal.at.invariant-of-self c).After-begin in
+pub invariant_of-self : goal.invariant_of-self
+invariant_of-self c =
+    let at = (goal.at.invariant_of-self c).After-begin in
     let t = c.push.new.self in
     let b = c.args.self.now in
     let x = c.args.rule.now in
-    let fits : all_fit (rules_on t) ≡ true = subst (λ l. all_fit l ≡ true) (sym (put (goal.at.invariant-of-self c).After-push)) (fit_push (rules_on b.table) x b.fit (fit_told x (read at).0 (known x c.type_inv.rule) (read at).1)) in
+    let fits : all_fit (rules_on t) ≡ true = subst (λ l. all_fit l ≡ true) (sym (put (goal.at.invariant_of-self c).After-push)) (fit_push (rules_on b.table) x b.fit (fit_told x (read at).0 (known x c.type_inv.rule) (read at).1)) in
     (held_again t.count t.ends t.bytes _ c.push.ensures, (fits, tt))
 
 pub returns : goal.returns

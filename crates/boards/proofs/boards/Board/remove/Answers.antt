@@ -9,11 +9,11 @@ use Rattle.boards.proofs.boards.Board.remove.Goals.{After-remove}
 gone : (c : After-remove) → rules_on c.remove.new.self ≡ take c.args.rule (rules_on c.args.self.now.table) ++ drop (suc c.args.rule) (rules_on c.args.self.now.table)
 gone c = let t = c.remove.new.self in cut_held t.count t.ends t.bytes _ c.remove.ensures
 
-pub invariant-of-self : goal.invariant-of-self
-invariant-of-self c =
+pub invariant_of-self : goal.invariant_of-self
+invariant_of-self c =
     let t = c.remove.new.self in
     let b = c.args.self.now in
-    let e = gone (goal.at.invariant-of-self c).After-remove in
+    let e = gone (goal.at.invariant_of-self c).After-remove in
     let fits : all_fit (rules_on t) ≡ true = subst (λ l. all_fit l ≡ true) (sym e) (fit_without (rules_on b.table) c.args.rule b.fit) in
     (held_again t.count t.ends t.bytes _ c.remove.ensures, (fits, tt))
 

@@ -18,11 +18,11 @@ room c = omega (arith, begins c, c.requires.room)
 pub overflow_add-end : goal.overflow_add-end
 overflow_add-end c = let l = room (goal.at.overflow_add-end c).After-begin-begin in search rules
 
-pub slice-bounds-copy_from_slice-end : goal.slice-bounds-copy_from_slice-end
-slice-bounds-copy_from_slice-end c = let l = room (goal.at.slice-bounds-copy_from_slice-end c).After-begin-begin in search rules
+pub slice_bounds-copy_from_slice-end : goal.slice_bounds-copy_from_slice-end
+slice_bounds-copy_from_slice-end c = let l = room (goal.at.slice_bounds-copy_from_slice-end c).After-begin-begin in search rules
 
-pub overflow-cast-self : goal.overflow-cast-self
-overflow-cast-self c = let l = room (goal.at.overflow-cast-self c).After-begin-begin in search rules
+pub overflow_cast-self : goal.overflow_cast-self
+overflow_cast-self c = let l = room (goal.at.overflow_cast-self c).After-begin-begin in search rules
 
 pub returns : goal.returns
 returns c =

@@ -40,8 +40,8 @@ move_up-requires c =
 pub overflow_sub-end : goal.overflow_sub-end
 overflow_sub-end c = let s = stands (goal.at.overflow_sub-end c).After-begin-used in omega arith
 
-pub overflow-cast-end : goal.overflow-cast-end
-overflow-cast-end c = let s = stands (goal.at.overflow-cast-end c).After-begin-used in search rules
+pub overflow_cast-end : goal.overflow_cast-end
+overflow_cast-end c = let s = stands (goal.at.overflow_cast-end c).After-begin-used in search rules
 
 pub take_out-requires : goal.take_out-requires
 take_out-requires c =

@@ -19,14 +19,14 @@ stands c =
     let light = light_held t.count t.ends t.bytes (rules_on t) c.requires in
     record { ordered = omega (arith, c.begin.ensures, c.begin-2.ensures); inside = omega (arith, c.begin-2.ensures) }
 
-pub slice-bounds-result-count : goal.slice-bounds-result-count
-slice-bounds-result-count c = (stands (goal.at.slice-bounds-result-count c).After-begin-2).ordered
+pub slice_bounds-result-count : goal.slice_bounds-result-count
+slice_bounds-result-count c = (stands (goal.at.slice_bounds-result-count c).After-begin-2).ordered
 
-pub slice-bounds-result-start : goal.slice-bounds-result-start
-slice-bounds-result-start c = let s = stands (goal.at.slice-bounds-result-start c).After-begin-2 in search rules
+pub slice_bounds-result-start : goal.slice_bounds-result-start
+slice_bounds-result-start c = let s = stands (goal.at.slice_bounds-result-start c).After-begin-2 in search rules
 
-pub slice-bounds-result-end : goal.slice-bounds-result-end
-slice-bounds-result-end c = let s = stands (goal.at.slice-bounds-result-end c).After-begin-2 in search rules
+pub slice_bounds-result-end : goal.slice_bounds-result-end
+slice_bounds-result-end c = let s = stands (goal.at.slice_bounds-result-end c).After-begin-2 in search rules
 
 pub returns-then-rule-self : goal.returns-then-rule-self
 returns-then-rule-self c =

@@ -6,8 +6,8 @@ use Rattle.machine.proofs.Climbs.{newest_length}
 use Rattle.machine.proofs.States.{true_good}
 use Rattle.machine.proofs.machine.Machine.steps.Goals as goal
 
-pub overflow-cast-result : goal.overflow-cast-result
-overflow-cast-result c =
+pub overflow_cast-result : goal.overflow_cast-result
+overflow_cast-result c =
     let s = c.args.self.now.state in
     let d = (true_good s c.args.self.now.kept).depth in
     search rules

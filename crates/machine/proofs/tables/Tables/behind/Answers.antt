@@ -9,8 +9,8 @@ pub end-place-requires : goal.end-place-requires
 end-place-requires c =
     row_end c.args.self.now (c.up.invariant.5 c.requires.used c.requires.over) c.up.invariant.4
 
-pub overflow-cast-place : goal.overflow-cast-place
-overflow-cast-place c =
+pub overflow_cast-place : goal.overflow_cast-place
+overflow_cast-place c =
     let e = row_end c.args.self.now (c.up.invariant.5 c.requires.used c.requires.over) c.up.invariant.4 in
     let i = inside _ _ _ _ e.2 in
     let r : c.end-place.result ≡ e.1 = c.end-place.ensures e.0 e.1 e.2 in

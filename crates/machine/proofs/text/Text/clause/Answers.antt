@@ -10,8 +10,8 @@ pub end-requires : goal.end-requires
 end-requires c =
     let t = c.requires.there in (t.0.head, _, head_spans c.args.self.now.bytes c.args.begin t.0 t.1 t.2)
 
-pub overflow-cast-result-2 : goal.overflow-cast-result-2
-overflow-cast-result-2 c =
+pub overflow_cast-result-2 : goal.overflow_cast-result-2
+overflow_cast-result-2 c =
     let t = c.requires.there in
     let s = head_spans c.args.self.now.bytes c.args.begin t.0 t.1 t.2 in
     let i = inside _ _ _ _ s in

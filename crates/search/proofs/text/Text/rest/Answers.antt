@@ -2,8 +2,8 @@ use Rattle.std.proofs.Common.{◌≡◌, ℕ, rules}
 use Rattle.bindings.proofs.Texts.{inside}
 use Rattle.search.proofs.text.Text.rest.Goals as goal
 
-pub overflow-cast-result : goal.overflow-cast-result
-overflow-cast-result c =
+pub overflow_cast-result : goal.overflow_cast-result
+overflow_cast-result c =
     let r = c.requires.spans in
     let s = c.requires.short in
     let i = inside _ _ _ _ r.2 in

@@ -45,17 +45,17 @@ returns-in_err-push c =
 pushed : (c : In_ok-push) → lists c.push.new.self ≡ lists c.args.self.now.rules ++ c.args.rule.now ∷ []
 pushed c = lists_push c.args.self.now.rules c.push.new.self c.in_ok-text.text c.args.rule.now c.in_ok-push.ensures.items c.in_ok-text.ensures.items
 
-pub invariant-of-self-2 : goal.invariant-of-self-2
-invariant-of-self-2 c =
+pub invariant_of-self-2 : goal.invariant_of-self-2
+invariant_of-self-2 c =
     let b = c.args.self.now in
     let t = c.args.rule.now in
     let r = was_read t (rule_view c.in_ok-read_rule.field-0) c.in_ok-read_rule.ensures in
-    let e = pushed (goal.at.invariant-of-self-2 c).In_ok-push in
+    let e = pushed (goal.at.invariant_of-self-2 c).In_ok-push in
     let fits : all_fit (lists c.push.new.self) ≡ true = subst (λ l. all_fit l ≡ true) (sym e) (fit_push (lists b.rules) t b.fit (fit_told t r.0 (known t c.type_inv.rule) r.1)) in
     let few : vec_len c.push.new.self ≤ 128 = omega (arith, c.in_ok-push.ensures.len, c.len.ensures, c.if-len-ge-MOST_RULES.false) in
     let counted : total (lists c.push.new.self) ≡ b.bytes + length t = ap total e ∙ total_push (lists b.rules) t ∙ ap (λ n. n + length t) b.counted in
     let light : b.bytes + length t ≤ 8192 = omega (arith, b.light, c.if-rule-self.false) in
-    (fits, (few, (counted, (light, tt))))
+    record { fit = fits; few = few; counted = counted; light = light }
 
 pub returns : goal.returns
 returns c =

@@ -12,7 +12,7 @@ returns-then-rule-len c =
 
 -- the list without the rule, and the bytes that go with it
 gone : (c : After-len-2) → lists c.remove-text.new.self ≡ take c.args.rule (lists c.args.self.now.rules) ++ drop (suc c.args.rule) (lists c.args.self.now.rules)
-gone c = lists_without c.args.self.now.rules c.remove-text.new.self c.args.rule c.remove-text.ensures.places.2
+gone c = lists_without c.args.self.now.rules c.remove-text.new.self c.args.rule c.remove-text.ensures.by_index.2
 
 fewer : (c : After-len-2) → total (lists c.remove-text.new.self) + c.len-2.result ≡ c.args.self.now.bytes
 fewer c =
@@ -25,16 +25,16 @@ fewer c =
 pub overflow_sub-self : goal.overflow_sub-self
 overflow_sub-self c = omega (arith, fewer (goal.at.overflow_sub-self c).After-len-2)
 
-pub invariant-of-self : goal.invariant-of-self
-invariant-of-self c =
+pub invariant_of-self : goal.invariant_of-self
+invariant_of-self c =
     let b = c.args.self.now in
-    let e = gone (goal.at.invariant-of-self c).After-len-2 in
-    let f = fewer (goal.at.invariant-of-self c).After-len-2 in
+    let e = gone (goal.at.invariant_of-self c).After-len-2 in
+    let f = fewer (goal.at.invariant_of-self c).After-len-2 in
     let fits : all_fit (lists c.remove-text.new.self) ≡ true = subst (λ l. all_fit l ≡ true) (sym e) (fit_without (lists b.rules) c.args.rule b.fit) in
     let few : vec_len c.remove-text.new.self ≤ 128 = omega (arith, c.remove-text.ensures.len, b.few) in
     let counted : total (lists c.remove-text.new.self) ≡ b.bytes - c.len-2.result = omega arith in
     let light : b.bytes - c.len-2.result ≤ 8192 = omega (arith, b.light) in
-    (fits, (few, (counted, (light, tt))))
+    record { fit = fits; few = few; counted = counted; light = light }
 
 pub returns : goal.returns
 returns c =

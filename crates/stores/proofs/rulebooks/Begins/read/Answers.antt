@@ -43,9 +43,9 @@ after c v e =
     (subst AllBytes (sym c.loop-item.invariant.same) (known c.args.bytes.now c.type_inv.bytes))
     (ap (λ x. Ok (Some x)) (sym e) ∙ ap (λ o. Ok (option_map item_view o)) (sym c.in-Some.is) ∙ h.value) h.after
 
-pub overflow-cast-places : goal.overflow-cast-places
-overflow-cast-places c =
-    let w = after (goal.at.overflow-cast-places c).In-Some (rule_seen (rule_view c.in-Rule.rule)) (ap item_view c.in-Rule.is) in
+pub overflow_cast-places : goal.overflow_cast-places
+overflow_cast-places c =
+    let w = after (goal.at.overflow_cast-places c).In-Some (rule_seen (rule_view c.in-Rule.rule)) (ap item_view c.in-Rule.is) in
     let low : c.in-Rule.rule.place < 65536 = omega (arith, w.at, w.inside, c.loop-item.invariant.short, ap length c.loop-item.invariant.same) in
     search rules
 

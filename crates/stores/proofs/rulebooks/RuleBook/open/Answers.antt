@@ -10,11 +10,11 @@ returns-in_err-begins c =
     let p = err_from_is_err_and c.from_residual.result c.from_residual.ensures.1 in
     refused (λ (b : RuleBook). image_rules b.image.now) c.from_residual.result (book c.args.image.now.bytes.now) _ _ p.1 p.2 c.in_err-begins.ensures.value
 
-pub invariant-of-result : goal.invariant-of-result
-invariant-of-result c =
+pub invariant_of-result : goal.invariant_of-result
+invariant_of-result c =
     let h = c.in_ok-begins.ensures in
     let k = accepted (book c.args.image.now.bytes.now) (begun c.in_ok-begins.begins) h.value in
-    (k.0, (h.known, (h.few, (h.whole, (k.1, tt)))))
+    record { read = k.0; known = h.known; few = h.few; whole = h.whole; placed = k.1 }
 
 pub returns : goal.returns
 returns c = opens (book c.args.image.now.bytes.now) (begun c.in_ok-begins.begins) c.in_ok-begins.ensures.value

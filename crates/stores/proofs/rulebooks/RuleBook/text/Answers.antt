@@ -23,8 +23,8 @@ bounds-bytes-place-2 c =
     let l : c.args.rule < b.begins.count = omega arith in
     omega (arith, (stands_at b.image.now.bytes.now b.begins.count b.begins.places (table b) c.args.rule l).inside, long b.image.now.bytes.now b.begins.count b.begins.places (table b) c.args.rule l)
 
-pub slice-bounds-result-end : goal.slice-bounds-result-end
-slice-bounds-result-end c =
+pub slice_bounds-result-end : goal.slice_bounds-result-end
+slice_bounds-result-end c =
     let b = c.args.self.now in
     let bs = b.image.now.bytes.now in
     let p = get_or b.begins.places c.args.rule 0 in
