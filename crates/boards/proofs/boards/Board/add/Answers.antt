@@ -56,7 +56,7 @@ invariant_of-self c =
     let b = c.args.self.now in
     let x = c.args.rule.now in
     let fits : all_fit (rules_on t) ≡ true = subst (λ l. all_fit l ≡ true) (sym (put (goal.at.invariant_of-self c).After-push)) (fit_push (rules_on b.table) x b.fit (fit_told x (read at).0 (known x c.type_inv.rule) (read at).1)) in
-    (held_again t.count t.ends t.bytes _ c.push.ensures, (fits, tt))
+    record { held = held_again t.count t.ends t.bytes _ c.push.ensures; fit = fits }
 
 pub returns : goal.returns
 returns c =

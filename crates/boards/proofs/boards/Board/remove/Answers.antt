@@ -15,10 +15,10 @@ invariant_of-self c =
     let b = c.args.self.now in
     let e = gone (goal.at.invariant_of-self c).After-remove in
     let fits : all_fit (rules_on t) ≡ true = subst (λ l. all_fit l ≡ true) (sym e) (fit_without (rules_on b.table) c.args.rule b.fit) in
-    (held_again t.count t.ends t.bytes _ c.remove.ensures, (fits, tt))
+    record { held = held_again t.count t.ends t.bytes _ c.remove.ensures; fit = fits }
 
 pub returns : goal.returns
 returns c =
     let b = c.args.self.now in
-    let k = taken_down (rules_on b.table) c.args.rule (omega (arith, b.held.0, c.count.ensures, c.if-rule_count.false)) in
+    let k = taken_down (rules_on b.table) c.args.rule (omega (arith, b.held.0, c.count.ensures, c.if-rule-count.false)) in
     record { value = k.value; after = gone (goal.at.returns c).After-remove ∙ k.after_it }

@@ -43,18 +43,15 @@ returns-then-not-try_rule c =
       place = failed_is s g c.requires.due clause c.clause-clause.ensures s' book e.tried (e.left refl) refl next;
     }
 
-took : (c : goal.After-goals_with-arg·1) → Took c.args.self.now c.clause-clause.result c.try_rule.new.self
-took c =
-    let e = c.if-not-try_rule.ensures in
-    record { text = e.text; tried = e.tried; steps = e.steps refl; depth = e.depth refl }
-
 pub goals_with-self-requires : goal.goals_with-self-requires
 goals_with-self-requires c =
     let s = c.args.self.now in
     let g = true_good s c.requires.good in
+    let e = c.if-not-try_rule.ensures in
+    let k : Took s c.clause-clause.result c.try_rule.new.self = record { text = e.text; tried = e.tried; steps = e.steps refl; depth = e.depth refl } in
     record {
-      climbing = λ e. climbing s g c.requires.due c.clause-clause.result c.clause-clause.ensures c.try_rule.new.self (took c);
-      depth = deep_enough s g c.requires.due c.clause-clause.result c.clause-clause.ensures c.try_rule.new.self (took c);
+      climbing = λ e. climbing s g c.requires.due c.clause-clause.result c.clause-clause.ensures c.try_rule.new.self k;
+      depth = deep_enough s g c.requires.due c.clause-clause.result c.clause-clause.ensures c.try_rule.new.self k;
     }
 
 pub returns : goal.returns

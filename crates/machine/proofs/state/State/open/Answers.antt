@@ -6,8 +6,7 @@ use Rattle.bindings.specs.Overlays.{laid}
 use Rattle.bindings.proofs.Overlays.{laid_length}
 use Rattle.machine.specs.declared.state.State.{State}
 use Rattle.machine.specs.Openings.{OpensAs}
-use Rattle.machine.proofs.Common.{all_bytes}
-use Rattle.machine.proofs.Openings.{Asked, asked_of, opening_is, open_is}
+use Rattle.machine.proofs.Openings.{all_bytes, Asked, asked_of, opening_is, open_is}
 use Rattle.machine.proofs.state.State.open.Goals as goal
 
 pub gather-requires : goal.gather-requires
