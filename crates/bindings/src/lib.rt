@@ -1,5 +1,6 @@
 // Bindings on a trail, and what a term means under them. The definitions stand in specs/ and the lemmas in
 // proofs/; the types below are shared by them and by the code that keeps to them.
+#![tactic(auto)]
 
 // A term: a place in the text, and the cell of its variable 0.
 #[derive(Clone, Copy)]

@@ -1,6 +1,7 @@
 // The branch of steps and the goals that remain, as they stand in tables: what they mean, and what each move of the
 // search does to them. The definitions stand in specs/ and the lemmas in proofs/; the types below are shared by them
 // and by the code that keeps to them.
+#![tactic(auto)]
 
 use resolution::Stop;
 

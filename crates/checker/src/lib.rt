@@ -1,4 +1,6 @@
 // The checker of slips: it searches nothing, and needs no memory but its own fixed tables.
+#![tactic(auto)]
+
 mod comparison;
 mod cursors;
 mod parts;

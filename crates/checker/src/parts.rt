@@ -1,5 +1,5 @@
 // The parts of a slip that are no terms.
-ghost use Rattle.std.specs.Prelude.{◌≡◌, drop};
+ghost use Rattle.std.specs.Prelude.{◌≡◌, ◌+◌, ◌≤◌, drop, length};
 ghost use Rattle.slips.specs.Checker.{step_operands};
 ghost use Rattle.comparing.specs.Parts.{step_begun, closed, opened};
 
@@ -12,6 +12,9 @@ const ANSWER: u8 = 0x20;
 const STEP: u8 = 0x21;
 
 const END: u8 = 0x2F;
+
+// how many bytes a step has before its terms
+const STEP_SIZE: usize = 4;
 
 // What stands from `place` on.
 fn after(slip: &[u8], place: usize) -> &[u8]
@@ -52,6 +55,14 @@ pub(crate) fn begin(slip: &[u8], place: usize) -> Result<(u16, u8), SlipFault>
         return Err(SlipFault::NoStep { place });
     };
     Ok(operands_of(operands, place)?)
+}
+
+// Where the terms of the step at `place` begin.
+pub(crate) fn behind_operands(slip: &[u8], place: usize) -> usize
+    requires { place + 4 ≤ length slip.now }
+    ensures { result ≡ place + 4 }
+{
+    place + STEP_SIZE
 }
 
 // The slip ends at `place`.

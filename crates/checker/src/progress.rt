@@ -9,7 +9,7 @@ ghost use Rattle.reading.specs.Views.{seen};
 ghost use Rattle.checker.specs.Progress.{tables, OnlyDepth};
 
 use crate::comparison::agree;
-use crate::parts::{begin, close, open};
+use crate::parts::{begin, behind_operands, close, open};
 use crate::terms::read_terms;
 use crate::texts::Texts;
 use comparing::{Cursor, Source};
@@ -21,10 +21,9 @@ const MOST_STEPS: u16 = 512;
 const TERMS: usize = 32832;
 // goals of the query and of the steps
 const FRAMES: usize = 513;
-// how many bytes stand before the terms of the query's variables, and before those of a step
+// how many bytes stand before the terms of the query's variables
 const OPENING_SIZE: usize = 2;
 
-const STEP_SIZE: usize = 4;
 // where the head of a rule begins
 const HEAD: u16 = 5;
 
@@ -157,7 +156,8 @@ impl Progress {
         let place = self.place;
         let (rule, count) = self.choose(texts, slip)?;
         let first = self.used;
-        let next = read_terms(slip, place + STEP_SIZE, count, &mut self.table, first)?;
+        let terms = behind_operands(slip, place);
+        let next = read_terms(slip, terms, count, &mut self.table, first)?;
         let mut head = Cursor {
             source: Source::Rule(rule),
             place: HEAD,

@@ -1,5 +1,7 @@
 // Checks the slips that standard input has, a line each, and prints what came of it. A line names the kind of store, its
 // rules, the query and the slip, in hexadecimal; commas part rules, and in a pile a slash parts the upper store's.
+#![tactic(auto)]
+
 use boards::boards::Board;
 use checker::check;
 use hexadecimal::decode;

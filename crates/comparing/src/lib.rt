@@ -1,5 +1,6 @@
 // Terms of rules under the terms of a slip, read command by command, and compared so. The definitions stand in specs/ and
 // the lemmas in proofs/; the types below are shared by them and by the code that keeps to them.
+#![tactic(auto)]
 
 // Where a text comes from.
 #[derive(Clone, Copy)]

@@ -1,5 +1,7 @@
 // The grammar of books, queries and rules: their commands, the questions that reading puts to them, the faults
 // that it finds, and what reading gives. The definitions stand in specs/.
+#![tactic(auto)]
+
 pub mod commands;
 pub mod faults;
 pub mod laws;

@@ -1,4 +1,6 @@
 // Bytes as hexadecimal text, two digits a byte.
+#![tactic(auto)]
+
 ghost use Rattle.std.specs.Prelude.{◌≡◌, ◌<◌, IfOk, vec_items, string_bytes};
 ghost use Rattle.std.specs.Option.{option_map};
 ghost use Rattle.hexadecimal.specs.Digits.{digit_value, digit_letter, decoded, encoded};

@@ -1,4 +1,6 @@
 // Prints what stands in `book.bin`, item by item.
+#![tactic(auto)]
+
 mod lines;
 mod notation;
 

@@ -1,5 +1,7 @@
 // Prints the common instance of each pair of facts in `pairs.txt`, or `no`; a fact that cannot be read prints the
 // number, the place and the layer of its fault. A line has the bytes of two facts in hexadecimal, `|` between them.
+#![tactic(auto)]
+
 mod notation;
 
 use search::facts::{Unified, unify_facts};

@@ -1,4 +1,6 @@
 // Reads the books, rules and queries that standard input has in hexadecimal, a line each, and prints what came of it.
+#![tactic(auto)]
+
 use grammar::faults::{BookFault, SingleFault};
 use hexadecimal::{decode, encode};
 use reading::books::count_rules;

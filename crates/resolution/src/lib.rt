@@ -1,5 +1,6 @@
 // What follows from rules, and the search for it. The definitions stand in specs/; the types below are
 // shared by them and by the code that meets them, and each function carries a theorem in its contract.
+#![tactic(auto)]
 
 ghost use Rattle.resolution.specs.Examples.{Worked};
 ghost use Rattle.resolution.specs.Laws.{OneByOne, Refuses, KeepsToAllowance, Splits, Sound, NoneMeansNone, InOrder, StepsFit, WithinLimits, EndedBare, Tallies};

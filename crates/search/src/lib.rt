@@ -1,5 +1,7 @@
 // The search over fixed tables: a text of bytes, cells for variables and a branch of steps. Terms are places in
 // the text and are never copied.
+#![tactic(auto)]
+
 mod attempt;
 mod branch;
 mod cells;

@@ -1,4 +1,6 @@
 // Puts rules on a board over a book, and prints what became of each line of `ops.txt`.
+#![tactic(auto)]
+
 mod lines;
 mod ops;
 

@@ -1,4 +1,5 @@
 // Terms, rules and queries, and the byte form of a term. The definitions stand in specs/.
+#![tactic(auto)]
 
 // How a term's variables are written in bytes.
 #[derive(Clone, Copy, PartialEq, Eq, Debug)]

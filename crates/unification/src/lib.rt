@@ -1,5 +1,6 @@
 // Ground terms, substitutions and Robinson's unification with the occurs check. The definitions stand in
 // specs/; each function below carries a theorem about them in its contract.
+#![tactic(auto)]
 
 ghost use Rattle.unification.specs.Examples.{Worked};
 ghost use Rattle.unification.specs.Laws.{Unifies, MostGeneral, Recursive};

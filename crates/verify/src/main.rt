@@ -1,4 +1,6 @@
 // Checks the slip in `slip.bin` for the query in `query.bin` by the book in `book.bin`, and prints whether it passes.
+#![tactic(auto)]
+
 use checker::check;
 use grammar::faults::BookFault;
 use slips::faults::CheckFault;

@@ -15,12 +15,10 @@ returns-in_err-rule g c = λ goal goals r.
     stepped_err rules c.args.texts.now.body.now c.args.slip.now (rules_in rules) c.args.self.now.steps c.args.self.now.place goal goals c.from_residual.result _ _ _ _ p.1 p.2
     (λ more. not_chosen (rules_in rules) c.args.slip.now c.args.self.now.steps c.args.self.now.place goal more _ c.in_err-rule.ensures)
 
-pub overflow_add-place : goal.overflow_add-place
-overflow_add-place g c =
+pub behind_operands-terms-requires : goal.behind_operands-terms-requires
+behind_operands-terms-requires g c =
     let rules = g.S.Store.rules c.args.texts.now.store.now in
-    let k = choice (rules_in rules) c.args.slip.now c.args.self.now.steps c.args.self.now.place c.in_ok-rule.rule c.in_ok-rule.count c.in_ok-rule.ensures in
-    let low : c.args.self.now.place + 4 ≤ length c.args.slip.now = k.inside in
-    search rules
+    (choice (rules_in rules) c.args.slip.now c.args.self.now.steps c.args.self.now.place c.in_ok-rule.rule c.in_ok-rule.count c.in_ok-rule.ensures).inside
 
 pub read_terms-requires : goal.read_terms-requires
 read_terms-requires g c =
@@ -33,7 +31,7 @@ returns-in_err-next g c = λ goal goals r.
     let rules = g.S.Store.rules c.args.texts.now.store.now in
     let p = err_from_is_err_and c.from_residual-in_err-next.result c.from_residual-in_err-next.ensures.1 in
     stepped_err rules c.args.texts.now.body.now c.args.slip.now (rules_in rules) c.args.self.now.steps c.args.self.now.place goal goals c.from_residual-in_err-next.result _ _ _ _ p.1 p.2
-    (λ more. terms_fail (rules_in rules) c.args.slip.now c.args.self.now.steps c.args.self.now.place goal more c.in_ok-rule.rule c.in_ok-rule.count c.in_ok-rule.ensures _ c.in_err-next.ensures.value)
+    (λ more. terms_fail (rules_in rules) c.args.slip.now c.args.self.now.steps c.args.self.now.place goal more c.in_ok-rule.rule c.in_ok-rule.count c.in_ok-rule.ensures _ (rw c.behind_operands-terms.ensures at c.in_err-next.ensures).value)
 
 pub top-goal-requires : goal.top-goal-requires
 top-goal-requires g c =
@@ -45,7 +43,7 @@ pub agree-requires : goal.agree-requires
 agree-requires g c =
     let store = c.args.texts.now.store.now in
     let p = c.requires.ready in
-    let h = c.in_ok-next.ensures in
+    let h = rw c.behind_operands-terms.ensures at c.in_ok-next.ensures in
     record {
       short = c.requires.short;
       both =
@@ -59,7 +57,7 @@ pub returns-in_err-same_goal : goal.returns-in_err-same_goal
 returns-in_err-same_goal g c = λ goal goals r.
     let store = c.args.texts.now.store.now in
     let rules = g.S.Store.rules store in
-    let h = c.in_ok-next.ensures in
+    let h = rw c.behind_operands-terms.ensures at c.in_ok-next.ensures in
     let p = err_from_is_err_and c.from_residual-in_err-same_goal.result c.from_residual-in_err-same_goal.ensures.1 in
     let k = not_shown c.args.self.now.place c.agree.result _ c.in_err-same_goal.ensures in
     stepped_err rules c.args.texts.now.body.now c.args.slip.now (rules_in rules) c.args.self.now.steps c.args.self.now.place goal goals c.from_residual-in_err-same_goal.result _ _ _ _ p.1 (p.2 ∙ k.1)
@@ -84,7 +82,7 @@ pub returns : goal.returns
 returns g c = λ goal goals r.
     let store = c.args.texts.now.store.now in
     let rules = g.S.Store.rules store in
-    let h = c.in_ok-next.ensures in
+    let h = rw c.behind_operands-terms.ensures at c.in_ok-next.ensures in
     subst (λ t. Stepped rules c.args.texts.now.body.now c.args.slip.now (rules_in rules) c.args.self.now.steps c.args.self.now.place goal goals (Ok tt) t c.push.new.self.place) (sym c.push.ensures.tables)
     (subst (λ q. Stepped rules c.args.texts.now.body.now c.args.slip.now (rules_in rules) c.args.self.now.steps c.args.self.now.place goal goals (Ok tt) (pushed (with_table (tables c.args.self.now) c.read_terms.new.table) c.agree.new.goal c.agree.new.head c.in_ok-rule.count) q) (sym c.push.ensures.place)
     (goes_on rules (g.S.Store.fit store) c.args.texts.now.body.now c.args.slip.now (tables c.args.self.now) goal goals r
