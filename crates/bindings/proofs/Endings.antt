@@ -1,5 +1,5 @@
 -- The ways in which unification under the cells ends. Assumes nothing.
-use Rattle.std.proofs.Common.{◌≡◌, ℕ, zero, suc, ◌+◌, ◌*◌, ◌<◌, ◌≤◌, Bool, true, false, cond, T, eqb, List, [], ◌∷◌, ◌++◌, length, get_or, set, sym, refl, ap, ◌∙◌, subst, ap₂, le_trans, le_refl, mul-le-mul_right, suc-mul, mul-le-mul, arith, eqb→eq, length-append}
+use Rattle.std.proofs.Common.{◌≡◌, ℕ, suc, ◌+◌, ◌*◌, ◌<◌, ◌≤◌, Bool, true, false, cond, T, eqb, List, [], ◌∷◌, ◌++◌, length, get_or, set, sym, refl, ap, ◌∙◌, subst, ap₂, le_refl, suc-mul, mul-le-mul, arith, length-append}
 use mathlib.Core.Option.{Option, none, some}
 use lib.Dec.{eqb_refl}
 use Rattle.terms.specs.Terms.{Term, var, atom, pair}
@@ -14,13 +14,13 @@ use Rattle.unification.proofs.Steps.{unify_same, unify_left, unify_atom_right, u
 use Rattle.bindings.specs.declared.Cell.{Cell}
 use Rattle.bindings.specs.declared.Cell.TheVariants.{Free, Bound}
 use Rattle.bindings.specs.declared.TermAt.{TermAt}
-use Rattle.bindings.specs.Texts.{term, Stands}
+use Rattle.bindings.specs.Texts.{term}
 use Rattle.bindings.specs.Trails.{free_count}
 use Rattle.bindings.specs.Trails.{trail, Sound, TermIn, meaning_at, size_bound, weight}
 use Rattle.bindings.specs.declared.Shape.{Shape}
 use Rattle.bindings.specs.declared.Shape.TheVariants.{Open, Atom, Pair}
 use Rattle.bindings.specs.Shapes.{Shows}
-use Rattle.bindings.specs.Endings.{Applied, Says, Ends}
+use Rattle.bindings.specs.Endings.{Applied, Ends}
 use Rattle.bindings.proofs.Chains.{true_not_false}
 use Rattle.bindings.proofs.Shapes.{split}
 use Rattle.bindings.proofs.Links.{bind_applied, sound_size, eqb-false}

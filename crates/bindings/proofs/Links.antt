@@ -1,5 +1,5 @@
 -- The trail that is read off the cells: its bindings, its marks, one binding more. Assumes nothing.
-use Rattle.std.proofs.Common.{◌≡◌, ℕ, zero, suc, ◌+◌, ◌*◌, ◌<◌, ◌≤◌, Bool, true, false, T, eqb, ◌≢◌, ◌⊎◌, List, [], ◌∷◌, ◌++◌, length, get_or, set, replicate, sym, refl, ap, ◌∙◌, subst, ap₂, inl, inr, arith, eqb→eq, length-set, get_or-set_other, get_or-set_same}
+use Rattle.std.proofs.Common.{◌≡◌, ℕ, zero, suc, ◌+◌, ◌<◌, ◌≤◌, Bool, true, false, T, eqb, ◌≢◌, List, [], ◌∷◌, ◌++◌, length, get_or, set, replicate, sym, refl, ap, ◌∙◌, subst, ap₂, inl, inr, arith, eqb→eq, length-set, get_or-set_other, get_or-set_same}
 use native.Mathlib.Decide.{dec_le}
 use Rattle.std.proofs.lemmas.Bool.{cases_eq}
 use Rattle.terms.specs.Terms.{Term, var}
@@ -8,7 +8,7 @@ use Rattle.bindings.specs.declared.Cell.{Cell}
 use Rattle.bindings.specs.declared.Cell.TheVariants.{Free, Bound}
 use Rattle.bindings.specs.Meanings.{Trail, meaning, Unbound, Binds, Acyclic, size, lookups, AllSized}
 use Rattle.bindings.specs.Texts.{term, Stands}
-use Rattle.bindings.specs.Trails.{Since, Back, one_free, free_count, linked_from, trail_within, trail, none_bound, Link, Linked, Sound, size_bound}
+use Rattle.bindings.specs.Trails.{Since, Back, one_free, free_count, linked_from, trail_within, trail, none_bound, Linked, Sound, size_bound}
 use Rattle.bindings.specs.Endings.{Applied}
 use Rattle.bindings.proofs.Meanings.{meaning_unbound, meaning_bound, lookups_bound, meaning_size, size_positive, growth_grows}
 use Rattle.bindings.proofs.Chains.{bound_not_free, free_count_more, back_cells}

@@ -1,5 +1,5 @@
 -- Meanings of atoms, pairs and variables, how many look-ups they take, and how large they are. Assumes nothing.
-use Rattle.std.proofs.Common.{◌≡◌, ℕ, zero, suc, ◌+◌, ◌-◌, ◌*◌, ◌<◌, ◌≤◌, Bool, true, false, cond, T, eqb, ◌⊎◌, List, [], ◌∷◌, length, sym, refl, ap, ◌∙◌, subst, ap₂, inl, inr, le_trans, le_refl, suc-mul, add-mul, mul-le-mul, mul-le-mul_left, one-mul, arith, eqb→eq}
+use Rattle.std.proofs.Common.{◌≡◌, ℕ, zero, suc, ◌+◌, ◌-◌, ◌*◌, ◌≤◌, Bool, true, false, cond, eqb, [], ◌∷◌, length, sym, refl, ap, ◌∙◌, subst, inl, inr, le_trans, le_refl, suc-mul, add-mul, mul-le-mul, one-mul, arith}
 use lib.Dec.{eqb_refl}
 use Rattle.terms.specs.Terms.{Term, var, atom, pair}
 use Rattle.unification.specs.Variables.{is_variable, occurs}

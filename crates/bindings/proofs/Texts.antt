@@ -1,5 +1,5 @@
 -- Terms that stand in a text: their ends, their forms, their sizes. Assumes nothing.
-use Rattle.std.proofs.Common.{◌≡◌, ℕ, zero, suc, ◌+◌, ◌*◌, ◌<◌, ◌≤◌, cond, eqb, List, [], ◌∷◌, length, get_or, sym, refl, ap, ◌∙◌, subst, ap₂, arith}
+use Rattle.std.proofs.Common.{◌≡◌, ℕ, zero, suc, ◌+◌, ◌*◌, ◌<◌, ◌≤◌, cond, eqb, List, length, get_or, sym, refl, ap, ◌∙◌, subst, ap₂, arith}
 use Rattle.terms.specs.Terms.{Term, var, atom, pair}
 use Rattle.unification.specs.Variables.{shifted, Within}
 use Rattle.unification.proofs.Variables.{within_more, within_shifted}

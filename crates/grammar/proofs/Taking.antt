@@ -8,7 +8,7 @@ use Rattle.grammar.specs.declared.commands.Command.TheVariants.{Atom, Var, Pair}
 use Rattle.grammar.specs.declared.faults.CommandFault.{CommandFault}
 use Rattle.grammar.specs.declared.faults.CommandFault.TheVariants.{Operands, NoTerm}
 use Rattle.grammar.specs.Refusals.{command_place}
-use Rattle.grammar.specs.TermCommands.{var_byte, two_operand, var_operand, command, operands, Commands, end, unfit, next, taken, commands_past, commands}
+use Rattle.grammar.specs.TermCommands.{var_byte, two_operand, var_operand, command, operands, unfit, next, taken, commands_past, commands}
 pub use Rattle.grammar.specs.TermCommands.{place_of}
 
 -- a command with its first byte and the bytes after it

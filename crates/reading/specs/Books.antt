@@ -6,7 +6,7 @@ use Rattle.grammar.specs.declared.faults.RuleFault.TheVariants.{Command}
 use Rattle.grammar.specs.declared.faults.BookFault.{BookFault}
 use Rattle.grammar.specs.declared.faults.BookFault.TheVariants.{Rule as InRule, TooLong, TooManyRules}
 use Rattle.grammar.specs.Asking.{ask, go}
-use Rattle.grammar.specs.Singles.{Header, header, body}
+use Rattle.grammar.specs.Singles.{Header, header}
 use Rattle.grammar.specs.Items.{Item, world, rule, item, counts, rules, most_bytes, most_rules}
 use Rattle.reading.specs.declared.books.Item.{Item as ReadItem}
 use Rattle.reading.specs.declared.books.Item.TheVariants.{World as ReadWorld, Rule as ReadRule}

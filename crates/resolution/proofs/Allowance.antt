@@ -1,5 +1,5 @@
 -- What an allowance does to a call of next. Assumes nothing.
-use Rattle.std.proofs.Common.{◌≡◌, ℕ, zero, suc, ◌+◌, ◌-◌, ◌<◌, ◌≤◌, Bool, true, false, cond, ltb, leb, List, [], ◌∷◌, length, Ok, sym, refl, ap, ◌∙◌, subst, ap₂, suc-add, arith, le→leb, leb→le}
+use Rattle.std.proofs.Common.{◌≡◌, ℕ, zero, suc, ◌+◌, ◌-◌, ◌≤◌, Bool, true, false, cond, ltb, leb, List, [], ◌∷◌, length, Ok, sym, refl, ap, ◌∙◌, subst, ap₂, suc-add, arith, le→leb, leb→le}
 use mathlib.Core.Option.{Option, none, some}
 use lib.Dec.{not_T}
 use Rattle.terms.specs.Terms.{Term, Rule}
@@ -9,7 +9,7 @@ use Rattle.resolution.specs.declared.Word.{Word}
 use Rattle.resolution.specs.declared.Word.TheVariants.{Answer, Spent, Stopped, NoMore}
 use Rattle.resolution.specs.Limits.{allowance_limit}
 use Rattle.resolution.specs.Lines.{Step, Place, Turn, ends, goes_on, before, back, stop, unless_stopped, due_line, line_for, line, End, onward, lines}
-use Rattle.resolution.specs.Search.{Condition, running, standing, ended, stopped, Search, held, answers_after, condition_after, Called, settled, refused, continued, next}
+use Rattle.resolution.specs.Search.{Condition, running, standing, ended, stopped, Search, answers_after, condition_after, Called, settled, refused, continued, next}
 use Rattle.resolution.specs.Laws.{Refuses, Counts, Counted, IfTold, KeepsToAllowance, Says, more_tries, Splits}
 use Rattle.resolution.proofs.Lines.{Final, one_by_one, lines_by, lines_final, lines_left}
 

@@ -3,7 +3,7 @@ use Rattle.std.proofs.Common.{◌≡◌, ℕ, zero, suc, ◌+◌, ◌<◌, ◌�
 use lib.ListN.{length-map}
 use Rattle.terms.specs.Terms.{Term, var, atom, pair}
 use Rattle.unification.specs.Variables.{Within, AllWithin, shifted}
-use Rattle.unification.specs.Ground.{ground_pair, Replacement, replaced, all_replaced}
+use Rattle.unification.specs.Ground.{ground_pair, Replacement, replaced}
 use Rattle.unification.specs.Substitutions.{Substitution, apply}
 use Rattle.unification.proofs.Substitutions.{apply_atom, apply_pair}
 use Rattle.resolution.specs.Cells.{fresh, cell, present}

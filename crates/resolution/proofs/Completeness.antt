@@ -3,7 +3,7 @@ use Rattle.std.proofs.Common.{◌≡◌, ℕ, suc, ◌+◌, ◌-◌, ◌<◌, �
 use mathlib.Core.Option.{Option, none, some}
 use native.Mathlib.Decide.{dec_lt}
 use Rattle.terms.specs.Terms.{Term, var, atom, pair, Rule, Query}
-use Rattle.unification.specs.Variables.{Within, AllWithin, shifted}
+use Rattle.unification.specs.Variables.{Within, shifted}
 use Rattle.unification.specs.Ground.{Ground, ground_pair, Replacement, replaced, all_replaced}
 use Rattle.unification.specs.Substitutions.{Substitution, apply}
 use Rattle.unification.specs.Unification.{unify}
@@ -14,11 +14,11 @@ use Rattle.resolution.specs.declared.Word.{Word}
 use Rattle.resolution.specs.declared.Word.TheVariants.{Answer, Spent, Stopped, NoMore}
 use Rattle.resolution.specs.Rules.{rule, WellDeclared}
 use Rattle.resolution.specs.Follows.{Follows, by_rule, AllFollow, QueryFollows, Covers}
-use Rattle.resolution.specs.Cells.{fresh, cell}
+use Rattle.resolution.specs.Cells.{cell}
 use Rattle.resolution.specs.Limits.{allowance_limit}
-use Rattle.resolution.specs.Lines.{Step, Place, before, back, stop, landed, tried, End, onward, lines}
-use Rattle.resolution.specs.Search.{Condition, running, standing, ended, stopped, Search, condition_after, Called, settled, continued, next}
-use Rattle.resolution.specs.Calls.{Call, Session, begun, given_by, called, session}
+use Rattle.resolution.specs.Lines.{Step, Place, before, back, landed, tried, End, onward, lines}
+use Rattle.resolution.specs.Search.{Condition, running, standing, ended, stopped, Search, condition_after, Called, continued, next}
+use Rattle.resolution.specs.Calls.{Session, begun, given_by, called, session}
 use Rattle.resolution.specs.Laws.{Says, Some, NoneMeansNone}
 use Rattle.resolution.proofs.Follows.{first_follows, others_follow, append_follow}
 use Rattle.resolution.proofs.Cells.{cell_fresh, cell_kept, cell_within, map_same}

@@ -1,15 +1,15 @@
 -- The tally tells the tries and answers of the calls since opening or the last rewind. Assumes nothing.
-use Rattle.std.proofs.Common.{◌≡◌, ℕ, ◌+◌, ◌-◌, ◌≤◌, leb, List, [], ◌∷◌, Ok, Err, Result, sym, refl, ap, ◌∙◌, subst, arith}
+use Rattle.std.proofs.Common.{◌≡◌, ℕ, ◌+◌, leb, List, [], ◌∷◌, Ok, Err, Result, refl, arith}
 use Rattle.terms.specs.Terms.{Rule, Query}
 use Rattle.unification.proofs.Choice.{cond_by}
 use Rattle.resolution.specs.declared.Word.{Word}
 use Rattle.resolution.specs.declared.Word.TheVariants.{Answer, Spent, Stopped, NoMore}
 use Rattle.resolution.specs.declared.Outcome.{Outcome}
 use Rattle.resolution.specs.declared.Refusal.{Refusal}
-use Rattle.resolution.specs.Limits.{allowance_limit, tally_limit}
+use Rattle.resolution.specs.Limits.{allowance_limit}
 use Rattle.resolution.specs.Lines.{back, End, onward, lines}
-use Rattle.resolution.specs.Search.{Condition, running, standing, ended, stopped, Search, held, answers_after, Called, settled, refused, continued, next}
-use Rattle.resolution.specs.Calls.{Call, ask_next, ask_rewind, ask, Reply, said, reply, Session, begun, after_call, after_calls, replies}
+use Rattle.resolution.specs.Search.{Condition, running, standing, ended, stopped, Search, held, answers_after, Called, settled, continued, next}
+use Rattle.resolution.specs.Calls.{Call, ask_next, ask_rewind, ask, said, Session, begun, after_call, after_calls, replies}
 use Rattle.resolution.specs.Laws.{tries_in, one_if_answer, answers_in, Tallies}
 
 -- the counts of a search stand at n tries and m answers

@@ -1,8 +1,7 @@
 -- Goals and cells name only cells in use, and each step's rule and cells are there. Assumes nothing.
-use Rattle.std.proofs.Common.{◌≡◌, ℕ, zero, suc, ◌+◌, ◌<◌, ◌≤◌, List, [], ◌∷◌, ◌++◌, map, length, sym, refl, subst, arith}
-use mathlib.Core.Option.{some}
+use Rattle.std.proofs.Common.{◌≡◌, ℕ, zero, suc, ◌+◌, ◌<◌, ◌≤◌, List, [], ◌∷◌, ◌++◌, map, length, sym, subst, arith}
 use Rattle.terms.specs.Terms.{Term, Rule, Query}
-use Rattle.unification.specs.Variables.{Within, AllWithin, shifted}
+use Rattle.unification.specs.Variables.{AllWithin, shifted}
 use Rattle.unification.specs.Substitutions.{apply}
 use Rattle.unification.proofs.Variables.{within_more, all_within_more, all_within_append, all_within_map, within_shifted}
 use Rattle.unification.proofs.Within.{KeepsWithin, unify_keeps_within}

@@ -5,7 +5,7 @@ use Rattle.resolution.specs.declared.Word.{Word}
 use Rattle.resolution.specs.declared.Word.TheVariants.{Answer, Spent, Stopped, NoMore}
 use Rattle.resolution.specs.Cells.{fresh}
 use Rattle.resolution.specs.Lines.{Step, Place, before, back, End, onward, lines}
-use Rattle.resolution.specs.Search.{Condition, running, standing, ended, stopped, Search, condition_after, settled, continued}
+use Rattle.resolution.specs.Search.{Condition, running, standing, ended, stopped, Search, condition_after, continued}
 use Rattle.resolution.specs.Calls.{Session, called, session}
 use Rattle.resolution.specs.Laws.{EndedBare}
 use Rattle.resolution.proofs.Lines.{Dry, Final, lines_final}

@@ -1,8 +1,8 @@
 -- Steps and cells in use keep within their limits. Assumes nothing.
-use Rattle.std.proofs.Common.{◌≡◌, ℕ, ◌+◌, ◌-◌, ◌<◌, ◌≤◌, Bool, true, false, cond, ltb, leb, List, [], ◌∷◌, map, length, sym, refl, subst, arith, nltb→le}
+use Rattle.std.proofs.Common.{◌-◌, ◌<◌, ◌≤◌, ltb, leb, List, ◌∷◌, length, subst, arith, nltb→le}
 use mathlib.Core.Option.{Option, none, some}
 use lib.Dec.{nleb→lt}
-use Rattle.terms.specs.Terms.{Term, Rule, Query}
+use Rattle.terms.specs.Terms.{Term, Rule}
 use Rattle.unification.proofs.Choice.{cond_by}
 use Rattle.resolution.specs.declared.Stop.{Stop}
 use Rattle.resolution.specs.Rules.{rule}

@@ -1,5 +1,5 @@
 -- One line after the other: the bound never counts, and what each line keeps the call keeps. Assumes nothing.
-use Rattle.std.proofs.Common.{◌≡◌, ℕ, zero, suc, ◌+◌, ◌*◌, ◌<◌, ◌≤◌, Bool, true, false, cond, ltb, List, [], ◌∷◌, length, sym, refl, ap, ◌∙◌, subst, arith, ltb→lt, nltb→le}
+use Rattle.std.proofs.Common.{◌≡◌, ℕ, zero, suc, ◌+◌, ◌*◌, ◌<◌, ◌≤◌, ltb, List, [], ◌∷◌, length, refl, subst, arith, ltb→lt, nltb→le}
 use mathlib.Core.Option.{Option, none, some}
 use Rattle.terms.specs.Terms.{Term, Rule}
 use Rattle.unification.specs.Substitutions.{Substitution}

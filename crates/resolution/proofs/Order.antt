@@ -1,17 +1,17 @@
 -- Answers come in dictionary order of their rule numbers. Assumes nothing.
-use Rattle.std.proofs.Common.{◌≡◌, ℕ, suc, ◌<◌, ◌≤◌, ◌⊎◌, List, [], ◌∷◌, ◌++◌, length, sym, refl, subst, inl, inr, arith}
+use Rattle.std.proofs.Common.{◌≡◌, ℕ, suc, ◌<◌, ◌⊎◌, List, [], ◌∷◌, ◌++◌, length, sym, refl, subst, inl, inr, arith}
 use mathlib.Core.Option.{Option, none, some}
-use Rattle.terms.specs.Terms.{Term, Rule, Query}
+use Rattle.terms.specs.Terms.{Term, Rule}
 use Rattle.unification.specs.Variables.{shifted}
 use Rattle.unification.specs.Substitutions.{Substitution}
 use Rattle.unification.specs.Unification.{unify}
 use Rattle.resolution.specs.declared.Word.{Word}
 use Rattle.resolution.specs.declared.Word.TheVariants.{Answer, Spent, Stopped, NoMore}
 use Rattle.resolution.specs.Rules.{rule}
-use Rattle.resolution.specs.Lines.{Step, Place, rules_taken, before, back, stop, landed, tried, End, onward, lines}
+use Rattle.resolution.specs.Lines.{Step, Place, rules_taken, before, back, landed, onward, lines}
 use Rattle.resolution.specs.Search.{Condition, running, standing, ended, stopped, Search, condition_after, settled, continued}
-use Rattle.resolution.specs.Calls.{Call, Session, begun, given_by, called, session}
-use Rattle.resolution.specs.Laws.{Later, AfterNewest, Ordered, InOrder}
+use Rattle.resolution.specs.Calls.{Session, given_by, called}
+use Rattle.resolution.specs.Laws.{Later, Ordered, InOrder}
 use Rattle.resolution.proofs.Lines.{at, Final, lines_keep, lines_final}
 use Rattle.resolution.proofs.Sessions.{sessions_keep, next_by}
 

@@ -1,5 +1,5 @@
 -- What holds at opening, and stays with each call of next, holds after every list of calls. Assumes nothing.
-use Rattle.std.proofs.Common.{◌≡◌, ℕ, ◌<◌, ◌≤◌, leb, List, [], ◌∷◌, map, length, refl, ap}
+use Rattle.std.proofs.Common.{◌≡◌, ℕ, ◌<◌, ◌≤◌, leb, List, [], ◌∷◌, length, refl}
 use mathlib.Core.Option.{Option, none, some}
 use Rattle.terms.specs.Terms.{Term, Rule, Query}
 use Rattle.unification.specs.Variables.{shifted}
@@ -11,7 +11,7 @@ use Rattle.resolution.specs.declared.Word.TheVariants.{Answer, Spent, Stopped, N
 use Rattle.resolution.specs.Rules.{rule}
 use Rattle.resolution.specs.Cells.{fresh}
 use Rattle.resolution.specs.Limits.{allowance_limit}
-use Rattle.resolution.specs.Lines.{Step, Place, before, back, stop, landed, tried, End, onward, lines}
+use Rattle.resolution.specs.Lines.{Step, Place, before, back, stop, landed, tried, onward, lines}
 use Rattle.resolution.specs.Search.{Condition, running, standing, ended, stopped, Search, Called, settled, continued, next}
 use Rattle.resolution.specs.Calls.{Call, ask_next, ask_rewind, ask, Session, begun, given_by, called, after_call, after_calls, session}
 use Rattle.resolution.specs.Laws.{Each}

@@ -2,7 +2,7 @@
 use Rattle.std.proofs.Common.{◌≡◌, ℕ, ◌+◌, List, [], ◌∷◌, ◌++◌, map, length, sym, refl, ap, ◌∙◌, subst, ap₂}
 use Rattle.terms.specs.Terms.{Term, Rule, Query}
 use Rattle.unification.specs.Variables.{shifted}
-use Rattle.unification.specs.Ground.{Ground, Replacement, replaced, all_replaced}
+use Rattle.unification.specs.Ground.{Replacement, replaced, all_replaced}
 use Rattle.unification.proofs.Ground.{all_replaced_append}
 use Rattle.resolution.specs.Rules.{rule, WellDeclared}
 use Rattle.resolution.specs.Follows.{by_rule, AllFollow, no_goal, each_goal, QueryFollows, Covers}

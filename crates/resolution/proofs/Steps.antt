@@ -1,14 +1,13 @@
 -- At every moment each step's head equals the goal it was tried on, in present terms. Assumes nothing.
-use Rattle.std.proofs.Common.{◌≡◌, ℕ, ◌+◌, ◌<◌, ◌≤◌, List, [], ◌∷◌, ◌++◌, map, length, sym, refl, ap, ◌∙◌, subst, ap₂, arith}
-use mathlib.Core.Option.{some}
+use Rattle.std.proofs.Common.{◌≡◌, ℕ, ◌+◌, ◌≤◌, List, [], ◌∷◌, ◌++◌, map, length, sym, refl, ap, ◌∙◌, subst}
 use Rattle.terms.specs.Terms.{Term, Rule, Query}
 use Rattle.unification.specs.Variables.{Within, AllWithin, shifted}
 use Rattle.unification.specs.Substitutions.{Substitution, apply}
 use Rattle.unification.proofs.Joins.{unifies}
 use Rattle.unification.proofs.Variables.{within_more, all_within_more, all_within_map, within_shifted}
-use Rattle.resolution.specs.Rules.{rule, Closed, AllClosed, WellDeclared}
+use Rattle.resolution.specs.Rules.{rule, Closed, AllClosed}
 use Rattle.resolution.specs.Cells.{fresh, present}
-use Rattle.resolution.specs.Lines.{Step, Place}
+use Rattle.resolution.specs.Lines.{Step}
 use Rattle.resolution.specs.Laws.{own_head, own_goals, Resolved, StepsFit}
 use Rattle.resolution.proofs.Cells.{stepped, present_kept, present_new, present_fresh, map_same, map_map, map-append}
 use Rattle.resolution.proofs.Declared.{rule_closed, Inside, Tidy, tidy_stays, tidy_opening}

@@ -1,6 +1,6 @@
 -- Each line of the search as an equation, by what holds at its place. Assumes nothing.
-use Rattle.std.proofs.Common.{◌≡◌, ℕ, suc, ◌-◌, ◌<◌, ◌≤◌, Bool, true, false, cond, ltb, leb, List, [], ◌∷◌, length, sym, refl, ap, ◌∙◌, subst, arith, le→leb, ltb→lt, lt→ltb, leb→le}
-use mathlib.Core.Option.{Option, none, some}
+use Rattle.std.proofs.Common.{◌≡◌, ℕ, suc, ◌-◌, ◌<◌, ◌≤◌, Bool, true, false, cond, ltb, leb, List, [], ◌∷◌, length, ap, ◌∙◌, arith, le→leb, leb→le}
+use mathlib.Core.Option.{none, some}
 use lib.Dec.{not_T}
 use Rattle.terms.specs.Terms.{Term, Rule}
 use Rattle.unification.proofs.Choice.{T→true, not_T→false}
@@ -9,7 +9,7 @@ use Rattle.resolution.specs.declared.Stop.TheVariants.{Deep, Cells}
 use Rattle.resolution.specs.declared.Word.TheVariants.{Answer, Spent, Stopped}
 use Rattle.resolution.specs.Rules.{rule}
 use Rattle.resolution.specs.Limits.{cell_limit, step_limit}
-use Rattle.resolution.specs.Lines.{Place, Turn, ends, goes_on, back, stop, tried, unless_stopped, due_line, line_for, line}
+use Rattle.resolution.specs.Lines.{Place, ends, goes_on, back, stop, tried, unless_stopped, due_line, line_for, line}
 
 leb-true : (m n : ℕ) → m ≤ n → leb m n ≡ true
 leb-true m n h = T→true (leb m n) (le→leb m n h)

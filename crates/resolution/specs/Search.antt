@@ -1,5 +1,5 @@
 -- A search and the calls on it: next, rewind and tally. Assumes nothing.
-use Rattle.std.specs.Prelude.{ℕ, ◌+◌, ◌-◌, min, cond, List, [], ◌∷◌, length, Ok, Err, Result, nat_le}
+use Rattle.std.specs.Prelude.{ℕ, ◌+◌, ◌-◌, min, cond, List, [], length, Ok, Err, Result, nat_le}
 use Rattle.terms.specs.Terms.{Rule, Query}
 use Rattle.resolution.specs.declared.Stop.{Stop}
 use Rattle.resolution.specs.declared.Word.{Word}

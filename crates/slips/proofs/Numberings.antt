@@ -1,5 +1,5 @@
 -- Terms numbered while they are written, and the table of numbers. Assumes nothing.
-use Rattle.std.proofs.Common.{◌≡◌, ℕ, ◌+◌, ◌<◌, ◌≤◌, Bool, true, false, cond, eqb, List, [], ◌∷◌, ◌++◌, map, length, get_or, take, drop, set, replicate, sym, refl, ap, ◌∙◌, subst, ap₂, arith, length-append, length-drop, length-set, take-append-drop, length-take-le, get_or-set_other, get_or-set_same, take-add}
+use Rattle.std.proofs.Common.{◌≡◌, ℕ, ◌+◌, ◌<◌, ◌≤◌, Bool, true, false, cond, eqb, List, [], ◌∷◌, ◌++◌, map, length, get_or, take, drop, set, replicate, sym, refl, ap, ◌∙◌, subst, arith, length-append, length-drop, length-set, take-append-drop, length-take-le, get_or-set_other, get_or-set_same, take-add}
 use lib.ListN.{length-map, length-replicate, get_or-replicate}
 use Rattle.std.proofs.lemmas.List.{take-map, drop-map}
 use Rattle.std.proofs.lemmas.Bool.{true≢false, eqb-true, eqb-false}
@@ -7,7 +7,7 @@ use Rattle.terms.specs.declared.Form.TheVariants.{Slips}
 use Rattle.terms.specs.Terms.{Term, var, atom, pair}
 use Rattle.terms.specs.Bytes.{two, encoding, encodings}
 use Rattle.slips.specs.Slips.{among, position, appeared, all_appeared, renumbered, numbered}
-use Rattle.slips.specs.Numberings.{Names, own, by_first, term_bytes, names_after, unmet, count, Numbers}
+use Rattle.slips.specs.Numberings.{Names, own, by_first, term_bytes, names_after, unmet, Numbers}
 use Rattle.slips.proofs.Unknowns.{among_end, appeared_known, all_appeared_known, position_below, count_most, end_other, count_new, count_none, Extends, appeared_extends, all_appeared_extends, position_kept, position_new, renumbered_kept, all_renumbered_kept, all_appeared_append}
 
 -- ── the parts of a term ──

@@ -1,6 +1,6 @@
 -- Two terms that a replacement makes equal are unified, and the replacement keeps what is found. Assumes nothing.
 use mathlib.Core.Path.{◌≡◌, refl, sym, ◌∙◌, ap, subst}
-use mathlib.Core.Bool.{true, false, cond}
+use mathlib.Core.Bool.{true, cond}
 use mathlib.Core.List.{List, [], ◌∷◌}
 use mathlib.Core.Option.{Option, none, some}
 use Prim.Native.Nat.{ℕ, zero, suc, ◌+◌, ◌≤◌, ◌<◌}
@@ -8,7 +8,7 @@ use native.Mathlib.Omega.{arith}
 use lib.Dec.{T, eqb, eqb_refl}
 use lib.ListN.{length}
 use Rattle.terms.specs.Terms.{Term, var, atom, pair}
-use Rattle.unification.specs.Variables.{is_variable, occurs, occurrences}
+use Rattle.unification.specs.Variables.{occurs, occurrences}
 use Rattle.unification.specs.Ground.{ground_atom, Replacement, replaced}
 use Rattle.unification.specs.Substitutions.{Substitution, apply}
 use Rattle.unification.specs.Unification.{Unifier, bind, meet, followed, rests_by, unify_by, unify_within, unify}
