@@ -3,7 +3,7 @@ use mathlib.Core.Path.{◌≡◌, refl, sym, ap, ap₂, subst, ◌∙◌}
 use mathlib.Core.Bool.{Bool, true, false}
 use mathlib.Core.List.{List, [], ◌∷◌}
 use mathlib.Core.Option.{Option, none, some}
-use Prim.Native.Nat.{ℕ, suc, ◌+◌, ◌<◌, ◌≤◌}
+use Prim.Native.Nat.{ℕ, suc, ◌+◌, ◌≤◌}
 use native.Mathlib.Omega.{arith}
 use lib.ListN.{length, get_or, length-append}
 use mir.Syntax.{w8}
@@ -20,7 +20,7 @@ use Rattle.grammar.specs.Singles.{rule}
 use Rattle.grammar.proofs.Alone.{rules_inverse}
 use Rattle.reading.specs.Views.{RuleView, rule_shown, seen}
 use Rattle.unification.specs.Variables.{shifted}
-use Rattle.unification.specs.Substitutions.{Substitution, apply}
+use Rattle.unification.specs.Substitutions.{Substitution}
 use Rattle.unification.specs.Unification.{unify}
 use Rattle.bindings.specs.declared.Cell.{Cell}
 use Rattle.bindings.specs.declared.Cell.TheVariants.{Free}
@@ -36,7 +36,7 @@ use Rattle.bindings.proofs.Overlays.{laid_length}
 use Rattle.bindings.proofs.Encodings.{laid_holds, holds_before, encoding_tree, encoding_declares}
 use Rattle.search.specs.declared.cells.Cells.{Cells}
 use Rattle.search.specs.declared.attempt.Head.{Head}
-use Rattle.search.specs.Tries.{found, goal_term, Ready, Taken, Outcome, Tried}
+use Rattle.search.specs.Tries.{found, goal_term, Ready, Outcome, Tried}
 use Rattle.search.specs.Facts.{instance_by, common, common_of}
 
 -- ── what a try leaves ──

@@ -1,5 +1,5 @@
 -- How a board's list changes. Assumes nothing.
-use Rattle.std.proofs.Common.{◌≡◌, ℕ, zero, suc, ◌+◌, ◌-◌, ◌<◌, ◌≤◌, Bool, true, false, ◌&&◌, ltb, leb, ◌⊎◌, List, [], ◌∷◌, ◌++◌, map, length, get_or, take, drop, Ok, Err, vec_items, vec_len, Result, Vec, sym, refl, ap, ◌∙◌, subst, ap₂, inl, inr, add-one, arith}
+use Rattle.std.proofs.Common.{◌≡◌, ℕ, zero, suc, ◌+◌, ◌<◌, ◌≤◌, true, ltb, leb, List, [], ◌∷◌, ◌++◌, map, length, get_or, take, drop, Ok, Err, vec_items, Result, Vec, sym, refl, ap, ◌∙◌, subst, ap₂, inl, inr, add-one, arith}
 use Rattle.std.proofs.lemmas.List.{map-append}
 use Rattle.std.proofs.lemmas.Bool.{lt-ltb, le-ltb, le-leb, lt-leb, and_parts, and_from}
 use Rattle.std.specs.declared.alloc.Global.{Global}
@@ -11,10 +11,8 @@ use Rattle.grammar.specs.Texts.{fit, all_fit, total}
 use Rattle.reading.specs.Views.{seen, RuleView, rule_shown}
 use Rattle.stores.specs.declared.boards.AddFault.{AddFault}
 use Rattle.stores.specs.declared.boards.AddFault.TheVariants.{Rule as Unfit, Full, Large, Memory}
-use Rattle.stores.specs.declared.boards.RemoveFault.{RemoveFault}
 use Rattle.stores.specs.declared.boards.RemoveFault.TheVariants.{Missing}
 use Rattle.stores.specs.Changes.{most_rules, most_bytes, added, Adds, removed, Removes}
-use Rattle.stores.specs.Fitting.{fit_append}
 use Rattle.stores.specs.Lists.{lists}
 
 -- ── putting up ──

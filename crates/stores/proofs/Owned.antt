@@ -1,9 +1,9 @@
 -- Owned lists of bytes. Assumes nothing.
-use Rattle.std.proofs.Common.{◌≡◌, ℕ, zero, suc, ◌<◌, ◌≤◌, min, cond, List, [], ◌∷◌, map, length, get_or, Some, None, vec_items, vec_len, Vec, sym, refl, ap, ◌∙◌, arith}
+use Rattle.std.proofs.Common.{◌≡◌, ℕ, zero, suc, ◌<◌, ◌≤◌, cond, List, [], ◌∷◌, map, length, get_or, Some, None, vec_items, vec_len, Vec, sym, refl, ap, ◌∙◌, arith}
 use Rattle.std.proofs.lemmas.List.{length-map, get_or_default}
 use Rattle.std.proofs.lemmas.Bool.{lt-ltb, le-ltb}
 use Rattle.std.specs.declared.alloc.Global.{Global}
-use Rattle.stores.specs.Answers.{no_number, count_of, text_of}
+use Rattle.stores.specs.Answers.{count_of, text_of}
 use Rattle.stores.specs.Lists.{lists}
 
 pub length_lists : (v : Vec (Vec ℕ Global) Global) → length (lists v) ≡ vec_len v

@@ -1,4 +1,4 @@
-use Rattle.std.proofs.Common.{◌≡◌, ℕ, ◌+◌, ◌<◌, ◌≤◌, Ok, Result, sym, ap, ◌∙◌, arith, rules}
+use Rattle.std.proofs.Common.{Ok, Result, sym, ap, ◌∙◌, arith, rules}
 use mathlib.Core.Option.{Option}
 use Rattle.terms.specs.Terms.{Term}
 use Rattle.grammar.specs.declared.faults.SingleFault.{SingleFault}

@@ -1,9 +1,5 @@
-use Rattle.std.proofs.Common.{◌≡◌, ℕ, ◌<◌, ◌≤◌, Bool, sym, refl, ap, ◌∙◌, subst, arith, rules}
-use Rattle.terms.specs.declared.Form.TheVariants.{Rules}
-use Rattle.terms.specs.Terms.{Term}
-use Rattle.terms.specs.Bytes.{encoding}
+use Rattle.std.proofs.Common.{arith, rules}
 use Rattle.bindings.proofs.Shapes.{split, split_first, split_is, part_stands, size_first, size_rest}
-use Rattle.search.specs.Sinks.{Puts}
 use Rattle.search.proofs.Sinks.{puts_as, puts_then, puts_over}
 use Rattle.search.proofs.instance.+write.Goals as goal
 

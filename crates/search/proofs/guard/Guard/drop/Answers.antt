@@ -1,4 +1,4 @@
-use Rattle.std.proofs.Common.{◌≡◌, sym, ◌∙◌, rules}
+use Rattle.std.proofs.Common.{sym, ◌∙◌}
 use Rattle.bindings.proofs.Chains.{true_not_false}
 use Rattle.search.proofs.guard.Guard.drop.Goals as goal
 use Rattle.search.proofs.guard.Guard.drop.Goals.{then-not-keep, else-not-keep}

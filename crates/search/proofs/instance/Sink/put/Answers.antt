@@ -1,4 +1,4 @@
-use Rattle.std.proofs.Common.{◌≡◌, ℕ, Bool, cond, List, set, sym, ap, ◌∙◌, arith}
+use Rattle.std.proofs.Common.{ℕ, Bool, cond, List, set, sym, ap, ◌∙◌, arith}
 use Rattle.search.specs.declared.instance.Sink.{Sink}
 use Rattle.search.proofs.Sinks.{one_put}
 use Rattle.search.proofs.instance.Sink.put.Goals as goal

@@ -1,6 +1,6 @@
-use Rattle.std.proofs.Common.{◌≡◌, ℕ, ◌+◌, ◌≤◌, sym, ap, ◌∙◌, subst, arith, rules}
+use Rattle.std.proofs.Common.{ap, arith}
 use Rattle.search.specs.declared.text.Text.{Text}
-use Rattle.search.proofs.Common.{settled, untaken, sound_as, term_as}
+use Rattle.search.proofs.Common.{settled, sound_as, term_as}
 use Rattle.search.proofs.tables.Tables.settle.Goals as goal
 
 pub instance-requires : goal.instance-requires

@@ -1,7 +1,5 @@
-use Rattle.std.proofs.Common.{◌≡◌, ◌+◌, ◌<◌, ◌≤◌, true, [], ◌∷◌, ◌++◌, map, length, vec_items, vec_len, sym, refl, ap, ◌∙◌, subst, arith}
+use Rattle.std.proofs.Common.{◌≡◌, ◌+◌, ◌≤◌, true, [], ◌∷◌, ◌++◌, map, length, vec_items, vec_len, sym, refl, ap, ◌∙◌, subst, arith}
 use Rattle.std.proofs.lemmas.Result.{err_from_is_err_and}
-use Rattle.terms.specs.Terms.{Rule}
-use Rattle.grammar.specs.Singles.{rule}
 use Rattle.grammar.specs.Texts.{all_fit, total}
 use Rattle.grammar.proofs.Fitting.{fit_told, fit_push, total_push}
 use Rattle.reading.specs.Views.{rule_view}

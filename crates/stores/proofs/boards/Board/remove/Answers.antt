@@ -1,4 +1,4 @@
-use Rattle.std.proofs.Common.{◌≡◌, suc, ◌+◌, ◌-◌, ◌<◌, ◌≤◌, true, [], ◌++◌, length, get_or, take, drop, vec_items, vec_len, sym, ap, ◌∙◌, subst, arith}
+use Rattle.std.proofs.Common.{◌≡◌, suc, ◌+◌, ◌-◌, ◌<◌, ◌≤◌, true, [], ◌++◌, length, get_or, take, drop, vec_len, sym, ap, ◌∙◌, subst, arith}
 use Rattle.grammar.specs.Texts.{all_fit, total}
 use Rattle.stores.specs.Lists.{lists}
 use Rattle.stores.proofs.Owned.{length_lists, list_at}

@@ -1,4 +1,4 @@
-use Rattle.std.proofs.Common.{◌-◌, length, Some, ap, ◌∙◌, arith}
+use Rattle.std.proofs.Common.{◌-◌, ap, ◌∙◌, arith}
 use Rattle.stores.specs.Answers.{byte_at, of_rule}
 use Rattle.stores.proofs.Piled.{upper, lower}
 use Rattle.stores.proofs.piles.PileStore.byte.Goals as goal
