@@ -15,7 +15,9 @@ NAME = re.compile(r"(?<![\w'?≢→·])[A-Za-z_][\w'?→≢]*(?:-[\w'?→≢]+)+
 # lemmas that have the name of one of the library's, beside which they are used
 LIBRARY = {"get_or-set_other", "map-append", "length-take-le", "take-map", "get_or-take", "eqb-false", "length-map", "leb-true", "leb-false"}
 # names of ours that the build also gives to a call, as in `c.rule-header`
-CALLS = {"count-above", "rule-header"}
+CALLS = {"count-above", "rule-header", "word-is"}
+# names that are declared several on a line, or bound in a pattern alone
+MORE = {"to-rewind", "to-tally", "to-hold", "to-answer", "to-slip", "no-atom", "no-variable"}
 GIVEN = {"not-T→false": "not_T→false"}
 
 
@@ -48,7 +50,7 @@ def declared(root):
             names.update(re.findall(r"let (\S+) [=:]", line))
             for found in re.finditer(r"λ ([^.]*)\.", line):
                 names.update(re.findall(r"[^\s(){}:,]+", found.group(1)))
-    return {n for n in names if NAME.fullmatch(n)} - LIBRARY
+    return {n for n in names | MORE if NAME.fullmatch(n)} - LIBRARY
 
 
 def respelled(name):

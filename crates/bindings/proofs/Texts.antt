@@ -96,8 +96,8 @@ pub record Parts (text : List ℕ) (n p l : ℕ) : Type 0 where
   pub is : term text p l ≡ pair (term text (p + 1) l) (term text mid l)
 
 pub stands_pair : {text : List ℕ} {n p l : ℕ} → Stands text n p l → (get_or text p 0 ≡ 1 → ⊥) → (get_or text p 0 ≡ 2 → ⊥) → Parts text n p l
-stands_pair {text} {n} {p} {l} s no-atom no-variable =
-    let f = fork text p (tree text p) s.end s.spans no-atom no-variable in
+stands_pair {text} {n} {p} {l} s no_atom no_variable =
+    let f = fork text p (tree text p) s.end s.spans no_atom no_variable in
     let a : tree text (p + 1) ≡ f.left = spans_tree text (p + 1) f.left f.mid f.at_left in
     let b : tree text f.mid ≡ f.right = spans_tree text f.mid f.right s.end f.at_right in
     let e : term text p l ≡ pair (term text (p + 1) l) (term text f.mid l) =

@@ -9,7 +9,7 @@ use Rattle.resolution.specs.Laws.{Later}
 use Rattle.slips.specs.declared.faults.OpeningFault.{OpeningFault}
 use Rattle.slips.specs.Slips.{Slip, numbers, answer_bytes}
 use Rattle.slips.specs.Opening.{rules_in, Opened, opening}
-use Rattle.slips.specs.Runs.{Request, to_next, to-slip, wrote, run}
+use Rattle.slips.specs.Runs.{Request, to_next, to_slip, wrote, run}
 use Rattle.slips.specs.Checker.{check, Claims}
 use Rattle.slips.specs.Laws.{NoRewind, Returns, Says, Stands, Given}
 use Rattle.engine.specs.declared.slots.Slot.{Slot}
@@ -22,7 +22,7 @@ use Rattle.engine.specs.Slots.{asked, returned, keeps}
 pub record Laws (bs : List ℕ) (o : Opened) : Type 0 where
   -- the checker, over any store of those rules, passes every slip that the search writes
   pub own_slips_pass : (others : List (List ℕ)) → rules_in others ≡ o.rules
-      → (calls : List Request) (buffer now : List ℕ) (n : ℕ) → Returns o calls (to-slip buffer) (wrote (Ok n) now)
+      → (calls : List Request) (buffer now : List ℕ) (n : ℕ) → Returns o calls (to_slip buffer) (wrote (Ok n) now)
       → check (rules_in others) bs (take n now) ≡ Ok tt
   -- it passes no slip, whatever its bytes, that claims a replacement which does not follow
   pub what_passes_follows : (slip : List ℕ) → check o.rules bs slip ≡ Ok tt

@@ -1,7 +1,7 @@
 -- What slots ask of a search, and what they then hold. Assumes nothing.
 use Rattle.std.specs.Prelude.{ℕ, List, [], ◌∷◌, vec_items}
 use Rattle.std.proofs.Math.Option.{Option, none, some}
-use Rattle.slips.specs.Runs.{Request as Asked, to_next, to-rewind, to-tally, to-hold, to-answer, to-slip, Reply as Returned, told, rewound, tallied, held, wrote}
+use Rattle.slips.specs.Runs.{Request as Asked, to_next, to_rewind, to_tally, to_hold, to_answer, to_slip, Reply as Returned, told, rewound, tallied, held, wrote}
 use Rattle.engine.specs.declared.slots.Request.{Request}
 use Rattle.engine.specs.declared.slots.Request.TheVariants.{Next, Rewind, Tally, Hold, Answer, Slip}
 use Rattle.engine.specs.declared.slots.Reply.{Reply}
@@ -11,11 +11,11 @@ use Rattle.engine.specs.declared.slots.Slot.{Slot}
 -- a call with the bytes of its buffer
 abbrev pub request_with : Request → List ℕ → Asked
 request_with (Next a) bytes = to_next a
-request_with Rewind bytes = to-rewind
-request_with Tally bytes = to-tally
-request_with Hold bytes = to-hold
-request_with Answer bytes = to-answer bytes
-request_with Slip bytes = to-slip bytes
+request_with Rewind bytes = to_rewind
+request_with Tally bytes = to_tally
+request_with Hold bytes = to_hold
+request_with Answer bytes = to_answer bytes
+request_with Slip bytes = to_slip bytes
 
 -- the call of a slot
 abbrev pub asked : Slot → Asked

@@ -17,7 +17,7 @@ use Rattle.resolution.proofs.Completeness
 use Rattle.resolution.proofs.Order
 use Rattle.slips.specs.Slips.{SlipStep, steps_of, slip_of, numbers, answer_bytes}
 use Rattle.slips.specs.Opening.{Opened}
-use Rattle.slips.specs.Runs.{Request, to_next, to-rewind, to-tally, to-hold, to-answer, to-slip, told}
+use Rattle.slips.specs.Runs.{Request, to_next, to_rewind, to_tally, to_hold, to_answer, to_slip, told}
 use Rattle.slips.specs.Checker.{Claims}
 use Rattle.slips.specs.Laws.{Opens, Says, NoRewind, Given, NoneMeansNone, InOrder}
 use Rattle.slips.proofs.Own.{Ready}
@@ -57,11 +57,11 @@ newest_after o calls a k =
 no_rewind_append : (xs ys : List Request) → NoRewind xs → NoRewind ys → NoRewind (xs ++ ys)
 no_rewind_append [] ys h k = k
 no_rewind_append (to_next a ∷ xs) ys h k = no_rewind_append xs ys h k
-no_rewind_append (to-rewind ∷ xs) ys h k = absurd h
-no_rewind_append (to-tally ∷ xs) ys h k = no_rewind_append xs ys h k
-no_rewind_append (to-hold ∷ xs) ys h k = no_rewind_append xs ys h k
-no_rewind_append (to-answer buffer ∷ xs) ys h k = no_rewind_append xs ys h k
-no_rewind_append (to-slip buffer ∷ xs) ys h k = no_rewind_append xs ys h k
+no_rewind_append (to_rewind ∷ xs) ys h k = absurd h
+no_rewind_append (to_tally ∷ xs) ys h k = no_rewind_append xs ys h k
+no_rewind_append (to_hold ∷ xs) ys h k = no_rewind_append xs ys h k
+no_rewind_append (to_answer buffer ∷ xs) ys h k = no_rewind_append xs ys h k
+no_rewind_append (to_slip buffer ∷ xs) ys h k = no_rewind_append xs ys h k
 
 module _ (texts : List (List ℕ)) (bs : List ℕ) (o : Opened) (h : Opens texts bs o) where
   -- the answer at the place p was given in these calls
@@ -126,11 +126,11 @@ module _ (texts : List (List ℕ)) (bs : List ℕ) (o : Opened) (h : Opens texts
   moved_given : (calls : List Request) (r : Request) → Each (Gave calls) (met o calls).given
       → Each (Gave (calls ++ (r ∷ []))) (after_call o.rules o.query (move r) (met o calls)).given
   moved_given calls (to_next a) g = told_given calls a g (reached_next o calls a).result refl
-  moved_given calls to-rewind g = tt
-  moved_given calls to-tally g = each_later calls to-tally tt (met o calls).given g
-  moved_given calls to-hold g = each_later calls to-hold tt (met o calls).given g
-  moved_given calls (to-answer buffer) g = each_later calls (to-answer buffer) tt (met o calls).given g
-  moved_given calls (to-slip buffer) g = each_later calls (to-slip buffer) tt (met o calls).given g
+  moved_given calls to_rewind g = tt
+  moved_given calls to_tally g = each_later calls to_tally tt (met o calls).given g
+  moved_given calls to_hold g = each_later calls to_hold tt (met o calls).given g
+  moved_given calls (to_answer buffer) g = each_later calls (to_answer buffer) tt (met o calls).given g
+  moved_given calls (to_slip buffer) g = each_later calls (to_slip buffer) tt (met o calls).given g
 
   abbrev AllGave : List Request → Type 0
   AllGave calls = Each (Gave calls) (met o calls).given
@@ -197,11 +197,11 @@ stays_given o (to_next a ∷ calls) n z =
     let z' : Session = after_call o.rules o.query (move (to_next a)) z in
     behind_more z.given z'.given (after_calls o.rules o.query (map move calls) z').given
     (given_behind (next o.rules a z.search).result (next o.rules a z.search).search.place z.given) (stays_given o calls n z')
-stays_given o (to-rewind ∷ calls) n z = absurd n
-stays_given o (to-tally ∷ calls) n z = stays_given o calls n z
-stays_given o (to-hold ∷ calls) n z = stays_given o calls n z
-stays_given o (to-answer buffer ∷ calls) n z = stays_given o calls n z
-stays_given o (to-slip buffer ∷ calls) n z = stays_given o calls n z
+stays_given o (to_rewind ∷ calls) n z = absurd n
+stays_given o (to_tally ∷ calls) n z = stays_given o calls n z
+stays_given o (to_hold ∷ calls) n z = stays_given o calls n z
+stays_given o (to_answer buffer ∷ calls) n z = stays_given o calls n z
+stays_given o (to_slip buffer ∷ calls) n z = stays_given o calls n z
 
 pub in_order : InOrder
 in_order texts bs o h calls between a b n k l = (

@@ -19,17 +19,17 @@ use Rattle.slips.specs.declared.faults.WriteRefusal.{WriteRefusal}
 use Rattle.slips.specs.declared.faults.WriteRefusal.TheVariants.{NoRoom}
 use Rattle.slips.specs.Slips.{slip_of, answer_bytes, slip_bytes}
 use Rattle.slips.specs.Opening.{Opened}
-use Rattle.slips.specs.Runs.{Request, to_next, to-rewind, to-tally, to-hold, to-answer, to-slip, Reply, wrote, hold, written, written_if, reply, after, replies, run}
+use Rattle.slips.specs.Runs.{Request, to_next, to_rewind, to_tally, to_hold, to_answer, to_slip, Reply, wrote, hold, written, written_if, reply, after, replies, run}
 use Rattle.slips.specs.Laws.{Returns, OnlyLooks, LooksLeave, BeyondStays, BuffersStay}
 
 -- what a request does to the search: those that only look do no more than tally
 abbrev pub move : Request → Call
 move (to_next a) = ask_next a
-move to-rewind = ask_rewind
-move to-tally = ask at_tally
-move to-hold = ask at_tally
-move (to-answer buffer) = ask at_tally
-move (to-slip buffer) = ask at_tally
+move to_rewind = ask_rewind
+move to_tally = ask at_tally
+move to_hold = ask at_tally
+move (to_answer buffer) = ask at_tally
+move (to_slip buffer) = ask at_tally
 
 module _ (rs : List Rule) (q : Query) where
   -- the session that requests lead to from opening, and its search
@@ -38,11 +38,11 @@ module _ (rs : List Rule) (q : Query) where
 
   after_moved : (r : Request) (z : Session) → after rs q r z.search ≡ (after_call rs q (move r) z).search
   after_moved (to_next a) z = refl
-  after_moved to-rewind z = refl
-  after_moved to-tally z = refl
-  after_moved to-hold z = refl
-  after_moved (to-answer buffer) z = refl
-  after_moved (to-slip buffer) z = refl
+  after_moved to_rewind z = refl
+  after_moved to_tally z = refl
+  after_moved to_hold z = refl
+  after_moved (to_answer buffer) z = refl
+  after_moved (to_slip buffer) z = refl
 
   replies_append : (xs ys : List Request) (z : Session)
       → replies rs q (xs ++ ys) z.search ≡ replies rs q xs z.search ++ replies rs q ys (after_calls rs q (map move xs) z).search
@@ -186,21 +186,21 @@ buffers_stay =
     record {
       by_answer = λ o calls buffer now r e.
           (let s : Search = (met o calls).search in
-          beyond_held (answer_bytes (slip_of o.rules o.query s.place)) buffer now r (hold s.condition) (returns_as o calls (to-answer buffer) (wrote r now) e));
+          beyond_held (answer_bytes (slip_of o.rules o.query s.place)) buffer now r (hold s.condition) (returns_as o calls (to_answer buffer) (wrote r now) e));
       by_slip = λ o calls buffer now r e.
           (let s : Search = (met o calls).search in
-          beyond_held (slip_bytes (slip_of o.rules o.query s.place)) buffer now r (hold s.condition) (returns_as o calls (to-slip buffer) (wrote r now) e));
+          beyond_held (slip_bytes (slip_of o.rules o.query s.place)) buffer now r (hold s.condition) (returns_as o calls (to_slip buffer) (wrote r now) e));
     }
 
 -- ── calls that only look ──
 
 looked : (rs : List Rule) (q : Query) (r : Request) → OnlyLooks r → (s : Search) → after rs q r s ≡ s
 looked rs q (to_next a) l s = absurd l
-looked rs q to-rewind l s = absurd l
-looked rs q to-tally l s = refl
-looked rs q to-hold l s = refl
-looked rs q (to-answer buffer) l s = refl
-looked rs q (to-slip buffer) l s = refl
+looked rs q to_rewind l s = absurd l
+looked rs q to_tally l s = refl
+looked rs q to_hold l s = refl
+looked rs q (to_answer buffer) l s = refl
+looked rs q (to_slip buffer) l s = refl
 
 pub looks_leave : LooksLeave
 looks_leave o calls r more l =

@@ -10,7 +10,7 @@ use Rattle.resolution.specs.Lines.{Place}
 use Rattle.resolution.specs.Search.{Condition, running, standing, ended, stopped}
 use Rattle.slips.specs.Slips.{all_appeared, numbered, Slip, slip_of, answer_bytes, slip_bytes}
 use Rattle.slips.specs.Opening.{Opened}
-use Rattle.slips.specs.Runs.{Request, to-hold, to-answer, to-slip, held, wrote, hold, written_if}
+use Rattle.slips.specs.Runs.{Request, to_hold, to_answer, to_slip, held, wrote, hold, written_if}
 use Rattle.slips.specs.Checker.{check, terms_at, Claimed, Claims}
 use Rattle.slips.specs.Laws.{Opens, Stands, WrittenReadsBack, OwnSlipsPass}
 use Rattle.slips.proofs.Unknowns.{Known, AllKnown, all_appeared_known, replaced_renumbered}
@@ -39,8 +39,8 @@ module _ (texts : List (List ℕ)) (bs : List ℕ) (o : Opened) (h : Opens texts
   pub stands : (calls : List Request) → (met o calls).search.condition ≡ standing → Stands o calls (slip_here calls)
   stands calls e =
       record {
-        answers = λ buffer l. as_returns o calls (to-answer buffer) _ (ap (λ c. written_if (hold c) (answer_bytes (slip_here calls)) buffer) e ∙ written_room (answer_bytes (slip_here calls)) buffer l);
-        slips = λ buffer l. as_returns o calls (to-slip buffer) _ (ap (λ c. written_if (hold c) (slip_bytes (slip_here calls)) buffer) e ∙ written_room (slip_bytes (slip_here calls)) buffer l);
+        answers = λ buffer l. as_returns o calls (to_answer buffer) _ (ap (λ c. written_if (hold c) (answer_bytes (slip_here calls)) buffer) e ∙ written_room (answer_bytes (slip_here calls)) buffer l);
+        slips = λ buffer l. as_returns o calls (to_slip buffer) _ (ap (λ c. written_if (hold c) (slip_bytes (slip_here calls)) buffer) e ∙ written_room (slip_bytes (slip_here calls)) buffer l);
         answer_back = answer_back (slip_here calls) (fit_here calls);
         slip_back = slip_back (slip_here calls) (fit_here calls);
       }
@@ -50,7 +50,7 @@ written_reads_back texts bs o h calls e =
     (slip_here texts bs o h calls, stands texts bs o h calls (hold_standing (met o calls).search.condition held_as))
   where
     held_as : hold (met o calls).search.condition ≡ Ok tt
-    held_as = let k = returns_as o calls to-hold (held (Ok tt)) e in cc
+    held_as = let k = returns_as o calls to_hold (held (Ok tt)) e in cc
 
 pub own_slips_pass : OwnSlipsPass
 own_slips_pass texts bs o h calls buffer now n e =
@@ -61,7 +61,7 @@ own_slips_pass texts bs o h calls buffer now n e =
     front : ((met o calls).search.condition ≡ standing) × (take n now ≡ slip_bytes (slip_here texts bs o h calls))
     front =
         written_front (met o calls).search.condition (slip_bytes (slip_here texts bs o h calls)) buffer now n
-        (returns_as o calls (to-slip buffer) (wrote (Ok n) now) e)
+        (returns_as o calls (to_slip buffer) (wrote (Ok n) now) e)
 
 -- ── what an answer covers is claimed by its bytes ──
 

@@ -16,7 +16,7 @@ use Rattle.slips.specs.declared.faults.SlipFault.TheVariants.{Reading, TooManySt
 use Rattle.slips.specs.declared.faults.CheckFault.{CheckFault}
 use Rattle.slips.specs.declared.faults.CheckFault.TheVariants.{InSlip}
 use Rattle.slips.specs.Opening.{opening}
-use Rattle.slips.specs.Runs.{to_next, to-rewind, to-tally, to-hold, to-answer, to-slip, Reply, told, rewound, tallied, held, wrote, run}
+use Rattle.slips.specs.Runs.{to_next, to_rewind, to_tally, to_hold, to_answer, to_slip, Reply, told, rewound, tallied, held, wrote, run}
 use Rattle.slips.specs.Checker.{has_rule, steps, check}
 use Rattle.slips.specs.Refusals.{check_number, check_place, check_layer, check_steps, opening_number, opening_place, opening_layer}
 
@@ -80,8 +80,8 @@ pub record Written : Type 0 where
       ≡ 0x10 ∷ 0x00 ∷ 0x00 ∷ 0x00 ∷ 0x0F ∷ 0x03 ∷ 0x01 ∷ 0x00 ∷ 0x02 ∷ 0x03 ∷ 0x01 ∷ 0x00 ∷ 0x05 ∷ 0x03 ∷ 0x01 ∷ 0x00 ∷ 0x06 ∷ 0x01 ∷ 0x00 ∷ 0x00 ∷ []
   pub path :
       run chain from_5
-      (to-hold ∷ to-answer (1 ∷ []) ∷ to_next 1000 ∷ to-hold ∷ to-answer (7 ∷ 7 ∷ 7 ∷ 7 ∷ 7 ∷ 8 ∷ 9 ∷ []) ∷ to-answer (7 ∷ 7 ∷ 7 ∷ 7 ∷ []) ∷ to_next 1000001
-      ∷ to-slip (replicate 22 7) ∷ to-slip (replicate 20 7) ∷ to-slip (replicate 19 7) ∷ to-tally ∷ to_next 1000 ∷ to_next 1000 ∷ to-slip [] ∷ to-hold ∷ to-rewind ∷ to_next 4 ∷ to-answer (replicate 5 7) ∷ [])
+      (to_hold ∷ to_answer (1 ∷ []) ∷ to_next 1000 ∷ to_hold ∷ to_answer (7 ∷ 7 ∷ 7 ∷ 7 ∷ 7 ∷ 8 ∷ 9 ∷ []) ∷ to_answer (7 ∷ 7 ∷ 7 ∷ 7 ∷ []) ∷ to_next 1000001
+      ∷ to_slip (replicate 22 7) ∷ to_slip (replicate 20 7) ∷ to_slip (replicate 19 7) ∷ to_tally ∷ to_next 1000 ∷ to_next 1000 ∷ to_slip [] ∷ to_hold ∷ to_rewind ∷ to_next 4 ∷ to_answer (replicate 5 7) ∷ [])
       ≡ held (Err NoAnswer)
       ∷ wrote (Err NoAnswer) (1 ∷ [])
       ∷ says Answer 4
@@ -102,14 +102,14 @@ pub record Written : Type 0 where
       ∷ wrote (Ok 5) to_6
       ∷ []
   pub second_slip :
-      run chain from_5 (to_next 1000 ∷ to_next 1000 ∷ to-slip (replicate 37 0) ∷ to-answer (replicate 5 0) ∷ [])
+      run chain from_5 (to_next 1000 ∷ to_next 1000 ∷ to_slip (replicate 37 0) ∷ to_answer (replicate 5 0) ∷ [])
       ≡ says Answer 4 ∷ says Answer 10 ∷ wrote (Ok 37) slip_to_7 ∷ wrote (Ok 5) (take 5 slip_to_7) ∷ []
-  pub two_goals_slip : run chain before_7 (to_next 1000 ∷ to-slip (replicate 24 0) ∷ []) ≡ says Answer 6 ∷ wrote (Ok 24) slip_before_7 ∷ []
+  pub two_goals_slip : run chain before_7 (to_next 1000 ∷ to_slip (replicate 24 0) ∷ []) ≡ says Answer 6 ∷ wrote (Ok 24) slip_before_7 ∷ []
   pub one_unknown :
-      run twins pairs (to_next 1000 ∷ to-answer (replicate 8 0) ∷ [])
+      run twins pairs (to_next 1000 ∷ to_answer (replicate 8 0) ∷ [])
       ≡ says Answer 1 ∷ wrote (Ok 8) (0x20 ∷ 0x02 ∷ 0x04 ∷ 0x00 ∷ 0x00 ∷ 0x04 ∷ 0x00 ∷ 0x00 ∷ []) ∷ []
   pub by_first_appearance :
-      run (boxed ∷ []) boxed_query (to_next 1000 ∷ to-answer (replicate 12 0) ∷ to-slip (replicate 23 0) ∷ [])
+      run (boxed ∷ []) boxed_query (to_next 1000 ∷ to_answer (replicate 12 0) ∷ to_slip (replicate 23 0) ∷ [])
       ≡ says Answer 1
       ∷ wrote (Ok 12) (0x20 ∷ 0x02 ∷ 0x03 ∷ 0x01 ∷ 0x00 ∷ 0x01 ∷ 0x04 ∷ 0x00 ∷ 0x00 ∷ 0x04 ∷ 0x00 ∷ 0x01 ∷ [])
       ∷ wrote (Ok 23)
@@ -117,7 +117,7 @@ pub record Written : Type 0 where
       ∷ 0x21 ∷ 0x00 ∷ 0x00 ∷ 0x02 ∷ 0x04 ∷ 0x00 ∷ 0x00 ∷ 0x04 ∷ 0x00 ∷ 0x01 ∷ 0x2F ∷ [])
       ∷ []
   pub unknowns_over_the_slip :
-      run (same_again ∷ twins) same_query (to_next 1000 ∷ to-slip (replicate 42 0) ∷ [])
+      run (same_again ∷ twins) same_query (to_next 1000 ∷ to_slip (replicate 42 0) ∷ [])
       ≡ says Answer 3
       ∷ wrote (Ok 42)
       (0x20 ∷ 0x02 ∷ 0x03 ∷ 0x04 ∷ 0x00 ∷ 0x00 ∷ 0x01 ∷ 0x00 ∷ 0x09 ∷ 0x04 ∷ 0x00 ∷ 0x00
@@ -125,14 +125,14 @@ pub record Written : Type 0 where
       ∷ 0x21 ∷ 0x00 ∷ 0x01 ∷ 0x01 ∷ 0x03 ∷ 0x04 ∷ 0x00 ∷ 0x00 ∷ 0x01 ∷ 0x00 ∷ 0x09 ∷ 0x2F ∷ [])
       ∷ []
   pub no_goal :
-      run [] no_goals (to_next 0 ∷ to-answer (replicate 5 0) ∷ to_next 0 ∷ [])
+      run [] no_goals (to_next 0 ∷ to_answer (replicate 5 0) ∷ to_next 0 ∷ [])
       ≡ says Answer 0 ∷ wrote (Ok 5) (0x20 ∷ 0x01 ∷ 0x04 ∷ 0x00 ∷ 0x00 ∷ []) ∷ says NoMore 0 ∷ []
   pub inside_itself_fails : run twins inside_itself (to_next 1000 ∷ []) ≡ says NoMore 1 ∷ []
 
 -- the limits of the search
 pub record Limited : Type 0 where
   pub spent_at_512 : run (circle 5 0 ∷ []) (ask_circle 5 0) (to_next 512 ∷ []) ≡ says Spent 512 ∷ []
-  pub deep_at_513 : run (circle 5 0 ∷ []) (ask_circle 5 0) (to_next 513 ∷ to-hold ∷ []) ≡ says (Stopped Deep) 512 ∷ held (Err NoAnswer) ∷ []
+  pub deep_at_513 : run (circle 5 0 ∷ []) (ask_circle 5 0) (to_next 513 ∷ to_hold ∷ []) ≡ says (Stopped Deep) 512 ∷ held (Err NoAnswer) ∷ []
   pub cells_after_32 : run (circle 6 64 ∷ []) (ask_circle 6 0) (to_next 1000 ∷ []) ≡ says (Stopped Cells) 32 ∷ []
   pub cells_after_31 : run (circle 6 64 ∷ []) (ask_circle 6 1) (to_next 1000 ∷ []) ≡ says (Stopped Cells) 31 ∷ []
 

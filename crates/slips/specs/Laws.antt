@@ -11,7 +11,7 @@ use Rattle.resolution.specs.Laws.{Later}
 use Rattle.slips.specs.declared.faults.WriteRefusal.{WriteRefusal}
 use Rattle.slips.specs.Slips.{all_appeared, numbered, Slip, numbers, answer_bytes, slip_bytes}
 use Rattle.slips.specs.Opening.{AllRules, Opened, opening}
-use Rattle.slips.specs.Runs.{Request, to_next, to-rewind, to-tally, to-hold, to-answer, to-slip, Reply, told, held, wrote, run}
+use Rattle.slips.specs.Runs.{Request, to_next, to_rewind, to_tally, to_hold, to_answer, to_slip, Reply, told, held, wrote, run}
 use Rattle.slips.specs.Checker.{check, Claims}
 use Rattle.slips.specs.Reading.{answer_in, slip_in}
 
@@ -48,11 +48,11 @@ pub record Opens (texts : List (List ℕ)) (bs : List ℕ) (o : Opened) : Type 0
 abbrev pub NoRewind : List Request → Type 0
 NoRewind [] = Unit {0}
 NoRewind (to_next a ∷ calls) = NoRewind calls
-NoRewind (to-rewind ∷ calls) = ⊥
-NoRewind (to-tally ∷ calls) = NoRewind calls
-NoRewind (to-hold ∷ calls) = NoRewind calls
-NoRewind (to-answer buffer ∷ calls) = NoRewind calls
-NoRewind (to-slip buffer ∷ calls) = NoRewind calls
+NoRewind (to_rewind ∷ calls) = ⊥
+NoRewind (to_tally ∷ calls) = NoRewind calls
+NoRewind (to_hold ∷ calls) = NoRewind calls
+NoRewind (to_answer buffer ∷ calls) = NoRewind calls
+NoRewind (to_slip buffer ∷ calls) = NoRewind calls
 
 module _ (o : Opened) where
   -- right after these calls, the call r returns x
@@ -72,8 +72,8 @@ module _ (o : Opened) where
 
   -- right after these calls this is the slip: answer and slip write it, and what they write reads back as it
   pub record Stands (calls : List Request) (s : Slip) : Type 0 where
-    pub answers : Writes calls to-answer (answer_bytes s)
-    pub slips : Writes calls to-slip (slip_bytes s)
+    pub answers : Writes calls to_answer (answer_bytes s)
+    pub slips : Writes calls to_slip (slip_bytes s)
     pub answer_back : answer_in (answer_bytes s) ≡ Ok s.terms
     pub slip_back : slip_in (slip_bytes s) ≡ Ok s
 
@@ -92,13 +92,13 @@ module _ (o : Opened) where
 abbrev pub WrittenReadsBack : Type 0
 WrittenReadsBack =
     (texts : List (List ℕ)) (bs : List ℕ) (o : Opened) → Opens texts bs o
-    → (calls : List Request) → Returns o calls to-hold (held (Ok tt)) → (s : Slip) × Stands o calls s
+    → (calls : List Request) → Returns o calls to_hold (held (Ok tt)) → (s : Slip) × Stands o calls s
 
 -- the first bytes of a buffer, as many as slip returns, pass the checker
 abbrev pub OwnSlipsPass : Type 0
 OwnSlipsPass =
     (texts : List (List ℕ)) (bs : List ℕ) (o : Opened) → Opens texts bs o
-    → (calls : List Request) (buffer now : List ℕ) (n : ℕ) → Returns o calls (to-slip buffer) (wrote (Ok n) now)
+    → (calls : List Request) (buffer now : List ℕ) (n : ℕ) → Returns o calls (to_slip buffer) (wrote (Ok n) now)
     → check o.rules bs (take n now) ≡ Ok tt
 
 -- whenever next says none, each replacement that follows is covered by an answer given since opening or the last rewind,
@@ -124,11 +124,11 @@ InOrder =
 -- hold, answer, slip and tally change no later result: without the call the others return what they return with it
 abbrev pub OnlyLooks : Request → Type 0
 OnlyLooks (to_next a) = ⊥
-OnlyLooks to-rewind = ⊥
-OnlyLooks to-tally = Unit {0}
-OnlyLooks to-hold = Unit {0}
-OnlyLooks (to-answer buffer) = Unit {0}
-OnlyLooks (to-slip buffer) = Unit {0}
+OnlyLooks to_rewind = ⊥
+OnlyLooks to_tally = Unit {0}
+OnlyLooks to_hold = Unit {0}
+OnlyLooks (to_answer buffer) = Unit {0}
+OnlyLooks (to_slip buffer) = Unit {0}
 
 abbrev pub LooksLeave : Type 0
 LooksLeave =
@@ -143,5 +143,5 @@ BeyondStays (Ok n) buffer now = (n ≤ length buffer) × (length now ≡ length 
 BeyondStays (Err e) buffer now = now ≡ buffer
 
 pub record BuffersStay : Type 0 where
-  pub by_answer : (o : Opened) (calls : List Request) (buffer now : List ℕ) (r : Result ℕ WriteRefusal) → Returns o calls (to-answer buffer) (wrote r now) → BeyondStays r buffer now
-  pub by_slip : (o : Opened) (calls : List Request) (buffer now : List ℕ) (r : Result ℕ WriteRefusal) → Returns o calls (to-slip buffer) (wrote r now) → BeyondStays r buffer now
+  pub by_answer : (o : Opened) (calls : List Request) (buffer now : List ℕ) (r : Result ℕ WriteRefusal) → Returns o calls (to_answer buffer) (wrote r now) → BeyondStays r buffer now
+  pub by_slip : (o : Opened) (calls : List Request) (buffer now : List ℕ) (r : Result ℕ WriteRefusal) → Returns o calls (to_slip buffer) (wrote r now) → BeyondStays r buffer now

@@ -12,8 +12,8 @@ use Rattle.slips.specs.Slips.{slip_of, answer_bytes, slip_bytes}
 -- a call: next with an allowance, answer and slip with a buffer
 pub data Request : Type 0 where
   to_next : ℕ → Request
-  to-rewind to-tally to-hold : Request
-  to-answer to-slip : List ℕ → Request
+  to_rewind to_tally to_hold : Request
+  to_answer to_slip : List ℕ → Request
 
 -- what a call returns; and of a call with a buffer, what the buffer then holds
 pub data Reply : Type 0 where
@@ -42,20 +42,20 @@ written_if (Err e) bytes buffer = wrote (Err e) buffer
 
 abbrev pub reply : List Rule → Query → Request → Search → Reply
 reply rs q (to_next a) s = told (next rs a s).result
-reply rs q to-rewind s = rewound
-reply rs q to-tally s = tallied (tally s)
-reply rs q to-hold s = held (hold s.condition)
-reply rs q (to-answer buffer) s = written_if (hold s.condition) (answer_bytes (slip_of rs q s.place)) buffer
-reply rs q (to-slip buffer) s = written_if (hold s.condition) (slip_bytes (slip_of rs q s.place)) buffer
+reply rs q to_rewind s = rewound
+reply rs q to_tally s = tallied (tally s)
+reply rs q to_hold s = held (hold s.condition)
+reply rs q (to_answer buffer) s = written_if (hold s.condition) (answer_bytes (slip_of rs q s.place)) buffer
+reply rs q (to_slip buffer) s = written_if (hold s.condition) (slip_bytes (slip_of rs q s.place)) buffer
 
 -- the search after a call: only next and rewind change it
 abbrev pub after : List Rule → Query → Request → Search → Search
 after rs q (to_next a) s = (next rs a s).search
-after rs q to-rewind s = rewind q s
-after rs q to-tally s = s
-after rs q to-hold s = s
-after rs q (to-answer buffer) s = s
-after rs q (to-slip buffer) s = s
+after rs q to_rewind s = rewind q s
+after rs q to_tally s = s
+after rs q to_hold s = s
+after rs q (to_answer buffer) s = s
+after rs q (to_slip buffer) s = s
 
 -- what each of the calls returns, one going on from where the one before ended
 abbrev pub replies : List Rule → Query → List Request → Search → List Reply

@@ -60,31 +60,31 @@ over c =
       | in-Standing-default+then-not-back w ↦
           (let o = w.if-not-back.ensures in
           let no = off_no (a - n) p.branch p (sym o.value) in
-          at NoMore w.word_is (ap rules_of w.self-is ∙ o.rules) (ap query_of w.self-is ∙ o.query) (ap (λ (x : Search). x.tries) w.self-is) (ap (λ (x : Search). x.answers) w.self-is)
+          at NoMore w.word-is (ap rules_of w.self-is ∙ o.rules) (ap query_of w.self-is ∙ o.query) (ap (λ (x : Search). x.tries) w.self-is) (ap (λ (x : Search). x.answers) w.self-is)
           (ap (λ (x : Search). place x.machine) w.self-is ∙ o.place ∙ no.1) (standing_none s₀ s a n inv w.in-Standing-default.is-0 (sym o.value)) e.machine e.condition e.tries e.answers)
       | in-Running-Nothing w ↦
           (let runs = w.in-Running-Nothing.is-0 in
           let due = due_here s₀ s a n inv runs (λ (rs : List Rule). due_at rs p) _ w.in-Running-Nothing.ensures in
-          here Answer w.word_is w.self-is (ends_with s₀ s a n inv runs _ (line_answer (rules_of s₀) (a - n) p due)) e.machine e.condition e.tries e.answers)
+          here Answer w.word-is w.self-is (ends_with s₀ s a n inv runs _ (line_answer (rules_of s₀) (a - n) p due)) e.machine e.condition e.tries e.answers)
       | in-Running-NoRule+then-not-back-2 w ↦
           (let o = w.if-not-back-2.ensures in
           let no = off_no (a - n) p.branch p (sym o.value) in
           let runs = w.in-Running-NoRule.is-0 in
           let due = due_here s₀ s a n inv runs (λ (rs : List Rule). due_at rs p) _ w.in-Running-NoRule.ensures in
-          at NoMore w.word_is (ap rules_of w.self-is ∙ o.rules) (ap query_of w.self-is ∙ o.query) (ap (λ (x : Search). x.tries) w.self-is) (ap (λ (x : Search). x.answers) w.self-is)
+          at NoMore w.word-is (ap rules_of w.self-is ∙ o.rules) (ap query_of w.self-is ∙ o.query) (ap (λ (x : Search). x.tries) w.self-is) (ap (λ (x : Search). x.answers) w.self-is)
           (ap (λ (x : Search). place x.machine) w.self-is ∙ o.place ∙ no.1) (ends_with s₀ s a n inv runs _ (line_none (rules_of s₀) (a - n) p due (sym o.value))) e.machine e.condition e.tries e.answers)
       | in-Running-Stop+then-tries-allowance w ↦
           (let runs = w.in-Running-Stop.is-0 in
           let due = due_here s₀ s a n inv runs (λ (rs : List Rule). due_at rs p) _ w.in-Running-Stop.ensures in
-          here Spent w.word_is w.self-is (ends_with s₀ s a n inv runs _ (stop_spent (rules_of s₀) (a - n) p _ due (omega (arith, w.if-tries-allowance.true)))) e.machine e.condition e.tries e.answers)
+          here Spent w.word-is w.self-is (ends_with s₀ s a n inv runs _ (stop_spent (rules_of s₀) (a - n) p _ due (omega (arith, w.if-tries-allowance.true)))) e.machine e.condition e.tries e.answers)
       | in-Running-Stop+else-tries-allowance w ↦
           (let runs = w.in-Running-Stop.is-0 in
           let due = due_here s₀ s a n inv runs (λ (rs : List Rule). due_at rs p) _ w.in-Running-Stop.ensures in
-          here (Stopped w.in-Running-Stop.why) w.word_is w.self-is (ends_with s₀ s a n inv runs _ (line_stopped (rules_of s₀) (a - n) p _ due (omega (arith, w.if-tries-allowance.false, inv.0)))) e.machine e.condition e.tries e.answers)
+          here (Stopped w.in-Running-Stop.why) w.word-is w.self-is (ends_with s₀ s a n inv runs _ (line_stopped (rules_of s₀) (a - n) p _ due (omega (arith, w.if-tries-allowance.false, inv.0)))) e.machine e.condition e.tries e.answers)
       | in-Running-Rule+then-tries-allowance-2 w ↦
           (let runs = w.in-Running-Rule.is-0 in
           let due = due_here s₀ s a n inv runs (λ (rs : List Rule). due_at rs p) _ w.in-Running-Rule.ensures in
-          here Spent w.word_is w.self-is (ends_with s₀ s a n inv runs _ (rule_spent (rules_of s₀) (a - n) p due (omega (arith, w.if-tries-allowance-2.true)))) e.machine e.condition e.tries e.answers)
+          here Spent w.word-is w.self-is (ends_with s₀ s a n inv runs _ (rule_spent (rules_of s₀) (a - n) p due (omega (arith, w.if-tries-allowance-2.true)))) e.machine e.condition e.tries e.answers)
     ]
 
 pub returns : goal.returns
