@@ -13,6 +13,12 @@ map_both : {A B : Type 0} (f : A → B) (xs ys : List A) → map f (xs ++ ys) �
 map_both f [] ys = refl
 map_both f (x ∷ xs) ys = ap (λ zs. f x ∷ zs) (map_both f xs ys)
 
+-- an element put in place of itself
+set_itself : {A : Type 0} (x : A) (ys : List A) (k : ℕ) → k < length ys → get_or ys k x ≡ x → set ys k x ≡ ys
+set_itself x [] k l e = absurd (omega (arith, l))
+set_itself x (z ∷ ys) zero l e = ap (λ w. w ∷ ys) (sym e)
+set_itself x (z ∷ ys) (suc k) l e = ap (λ ws. z ∷ ws) (set_itself x ys k (omega (arith, l)) e)
+
 -- of the slots before, the calls up to i were carried out: they hold what they return, and the others are as they were
 pub record SoFar (rs : List Rule) (q : Query) (before now : List Slot) (i : ℕ) (from s : DefinedSearch) : Type 0 where
   pub long : length now ≡ length before
@@ -36,10 +42,10 @@ module _ (rs : List Rule) (q : Query) (before : List Slot) (from : DefinedSearch
     same_rest = sym split_now ∙ far.rest ∙ split_before
 
     same_slot : get_or before i x ≡ x
-    same_slot = cc
+    same_slot = sym (ap (λ (zs : List Slot). get_or zs 0 x) same_rest)
 
     rest_same : drop (i + 1) now ≡ drop (i + 1) before
-    rest_same = cc
+    rest_same = ap (drop 1) same_rest
 
     lt : i < i + 1
     lt = omega arith
@@ -51,12 +57,7 @@ module _ (rs : List Rule) (q : Query) (before : List Slot) (from : DefinedSearch
     taken_before = ap (take (i + 1)) (sym whole) ∙ take_more_set before i x (omega (arith, inside, far.long))
       where
         whole : set before i x ≡ before
-        whole = set_same before i (omega (arith, inside, far.long)) same_slot
-
-        set_same : (ys : List Slot) (k : ℕ) → k < length ys → get_or ys k x ≡ x → set ys k x ≡ ys
-        set_same [] k l e = absurd (omega (arith, l))
-        set_same (z ∷ ys) zero l e = ap (λ (w : Slot). w ∷ ys) (sym e)
-        set_same (z ∷ ys) (suc k) l e = ap (λ (ws : List Slot). z ∷ ws) (set_same ys k (omega (arith, l)) e)
+        whole = set_itself x before i (omega (arith, inside, far.long)) same_slot
 
     pub one_more : SoFar rs q before (set now i y) (i + 1) from s'
     one_more =

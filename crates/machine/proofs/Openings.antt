@@ -1,7 +1,5 @@
 -- What opening copies, and what comes of it. Assumes nothing.
 use Rattle.std.proofs.Common.{◌≡◌, ℕ, zero, suc, ◌+◌, ◌<◌, ◌≤◌, Bool, true, false, cond, ltb, leb, List, [], ◌∷◌, ◌++◌, length, get_or, take, set, Some, None, Ok, Err, Result, sym, refl, ap, ◌∙◌, subst, ap₂, arith, length-append, length-set, length-take-le, ltb-false, le-leb}
-use mir.Syntax.{w8}
-use mir.Val.{Fits as Byte}
 use Rattle.terms.specs.Terms.{Term, Rule, Query}
 use Rattle.grammar.specs.declared.faults.SingleFault.{SingleFault}
 use Rattle.grammar.specs.Asking.{ask, go}
@@ -38,10 +36,6 @@ use Rattle.reading.specs.Views.{seen, QueryView, query_shown}
 use Rattle.stores.specs.Answers.{count_of, byte_at, byte_of}
 use Rattle.stores.proofs.Piled.{there}
 
--- what stands in a slice of bytes is a list of bytes
-pub all_bytes : (bs : List ℕ) → ((i : ℕ) → Byte w8 (get_or bs i 0)) → AllBytes bs
-all_bytes [] h = tt
-all_bytes (b ∷ bs) h = (omega (arith, (h 0).fits), all_bytes bs (λ i. h (suc i)))
 
 -- Where no byte comes, the rule is at its end.
 pub byte_none : (ts : List (List ℕ)) (i : ℕ) → i < count_of ts → (j : ℕ) → None ≡ byte_of ts i j → length (get_or ts i []) ≤ j

@@ -6,12 +6,13 @@ use Rattle.bindings.specs.Overlays.{laid}
 use Rattle.bindings.proofs.Overlays.{laid_length}
 use Rattle.machine.specs.declared.state.State.{State}
 use Rattle.machine.specs.Openings.{OpensAs}
-use Rattle.machine.proofs.Openings.{all_bytes, Asked, asked_of, opening_is, open_is}
+use Rattle.reading.proofs.Parts.{known}
+use Rattle.machine.proofs.Openings.{Asked, asked_of, opening_is, open_is}
 use Rattle.machine.proofs.state.State.open.Goals as goal
 
 pub gather-requires : goal.gather-requires
 gather-requires g c =
-    let a = asked_of c.args.query.now (query_view c.in_ok-asked.asked) (all_bytes _ c.type_inv.query) c.in_ok-asked.ensures in
+    let a = asked_of c.args.query.now (query_view c.in_ok-asked.asked) (known _ c.type_inv.query) c.in_ok-asked.ensures in
     let n : length c.new-text.result.bytes ≡ 16384 = search rules in
     record {
       few = omega (arith, c.count.ensures, c.if-count-gt-MOST_RULES.false);
@@ -23,7 +24,7 @@ pub returns : goal.returns
 returns g c =
     let ts = g.S.Store.rules c.args.store.now in
     let bs = c.args.query.now in
-    let all = all_bytes _ c.type_inv.query in
+    let all = known _ c.type_inv.query in
     let a = asked_of bs (query_view c.in_ok-asked.asked) all c.in_ok-asked.ensures in
     let few : length ts ≤ 1024 = omega (arith, c.count.ensures, c.if-count-gt-MOST_RULES.false) in
     let n : length c.new-text.result.bytes ≡ 16384 = search rules in
