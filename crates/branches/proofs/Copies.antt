@@ -1,17 +1,16 @@
 -- Rules that are copied into a text stand there. Assumes nothing.
-use Rattle.std.proofs.Common.{◌≡◌, ℕ, zero, suc, ◌+◌, ◌<◌, ◌≤◌, true, ◌&&◌, List, [], ◌∷◌, ◌++◌, length, get_or, take, Ok, Result, sym, refl, ap, ◌∙◌, subst, ap₂, append_assoc, append-nil, arith, length-append}
+use Rattle.std.proofs.Common.{◌≡◌, ℕ, zero, suc, ◌+◌, ◌<◌, ◌≤◌, true, List, [], ◌∷◌, ◌++◌, length, get_or, take, Ok, sym, refl, ap, ◌∙◌, subst, ap₂, append_assoc, append-nil, arith, length-append}
 use Rattle.std.proofs.lemmas.Bool.{and_from, and_parts}
 use Rattle.terms.specs.declared.Form.TheVariants.{Rules}
 use Rattle.terms.specs.Terms.{Term, Rule, Query}
-use Rattle.terms.specs.Bytes.{encoding, encodings, Fits, AllFit}
-use Rattle.grammar.specs.declared.faults.SingleFault.{SingleFault}
+use Rattle.terms.specs.Bytes.{encoding, encodings, AllFit}
 use Rattle.grammar.specs.Singles.{header_size, rule, query}
-use Rattle.grammar.specs.Encodings.{AllBytes, rule_bytes, query_bytes, FitRule, FitQuery}
+use Rattle.grammar.specs.Encodings.{AllBytes, rule_bytes, query_bytes, FitRule}
 use Rattle.grammar.specs.Texts.{fit, all_fit, total}
 use Rattle.grammar.proofs.Fitting.{FitText, fit_text}
 use Rattle.grammar.proofs.Alone.{queries_inverse}
 use Rattle.slips.specs.Opening.{rule_or_none, rules_in}
-use Rattle.bindings.specs.Texts.{Spans, tree, Declares, Holds}
+use Rattle.bindings.specs.Texts.{Spans, Holds}
 use Rattle.bindings.proofs.Encodings.{holds_first, holds_second, encoding_spans, encoding_tree, encoding_declares}
 use Rattle.branches.specs.declared.Clause.{Clause}
 use Rattle.branches.specs.Rows.{after, row, Declared}

@@ -1,32 +1,28 @@
 -- What is due at a place, by what stands in the tables. Assumes nothing.
-use Rattle.std.proofs.Common.{◌≡◌, ℕ, zero, suc, ◌-◌, ◌<◌, ◌≤◌, Bool, true, false, cond, ltb, List, [], ◌∷◌, ◌++◌, map, length, sym, refl, ap, ◌∙◌, subst, ap₂, arith, le-ltb, lt-ltb}
+use Rattle.std.proofs.Common.{◌≡◌, ℕ, zero, suc, ◌-◌, ◌<◌, ◌≤◌, Bool, cond, List, [], ◌∷◌, ◌++◌, map, length, refl, ap, ◌∙◌, ap₂, arith, le-ltb, lt-ltb}
 use mathlib.Core.Option.{Option, none, some}
 use lib.ListN.{length-map}
 use Rattle.terms.specs.Terms.{Term, Rule}
 use Rattle.unification.specs.Variables.{shifted}
-use Rattle.unification.specs.Substitutions.{Substitution}
 use Rattle.unification.specs.Unification.{unify}
 use Rattle.resolution.specs.declared.Stop.{Stop as Why}
 use Rattle.resolution.specs.declared.Stop.TheVariants.{Deep, Cells}
 use Rattle.resolution.specs.Rules.{rule}
-use Rattle.resolution.specs.Limits.{cell_limit, step_limit}
-use Rattle.resolution.specs.Lines.{Place, stop, landed, tried}
+use Rattle.resolution.specs.Lines.{stop, landed}
 use Rattle.resolution.proofs.Turns.{stop_deep, stop_cells, stop_none}
 use Rattle.bindings.specs.declared.Cell.{Cell}
 use Rattle.bindings.specs.Meanings.{meaning}
 use Rattle.bindings.specs.Texts.{tree, term}
 use Rattle.bindings.specs.Trails.{trail}
-use Rattle.bindings.specs.Presents.{presents}
 use Rattle.bindings.specs.Checks.{undone}
 use Rattle.bindings.proofs.Presents.{presents_length}
-use Rattle.branches.specs.declared.Goals.{Goals}
 use Rattle.branches.specs.declared.Step.{Step}
 use Rattle.branches.specs.declared.Clause.{Clause}
 use Rattle.branches.specs.declared.Due.{Due}
 use Rattle.branches.specs.declared.Due.TheVariants.{Nothing, NoRule, Stop, Rule as ARule}
 use Rattle.branches.specs.Rows.{row}
 use Rattle.branches.specs.Clauses.{clause, rule_at, rules_at}
-use Rattle.branches.specs.Branches.{later, own, behind, remaining, At, branch, place, InOrder}
+use Rattle.branches.specs.Branches.{later, behind, remaining, At, branch, place, InOrder}
 use Rattle.branches.specs.Moves.{due_unless, due_for, due_at, attempted_if, attempted}
 use Rattle.branches.proofs.Remaining.{behind_none, remaining_first}
 

@@ -3,11 +3,11 @@ use Rattle.std.proofs.Common.{◌≡◌, ℕ, zero, suc, Bool, true, false, cond
 use mathlib.Core.Option.{Option, none, some}
 use Rattle.terms.specs.Terms.{Term, Rule}
 use Rattle.resolution.specs.declared.Stop.{Stop as Why}
-use Rattle.resolution.specs.declared.Word.TheVariants.{Spent, Stopped}
-use Rattle.resolution.specs.Lines.{Place, Turn, ends, goes_on, back, stop, tried, unless_stopped, due_line, line_for, line}
+use Rattle.resolution.specs.declared.Word.TheVariants.{Spent}
+use Rattle.resolution.specs.Lines.{Place, ends, goes_on, back, stop, unless_stopped, due_line, line_for}
 use Rattle.branches.specs.declared.Due.{Due}
-use Rattle.branches.specs.declared.Due.TheVariants.{Nothing, NoRule, Stop, Rule as ARule}
-use Rattle.branches.specs.Moves.{due_unless, due_for, due_at, attempted_if, attempted, turn, LinesByDue}
+use Rattle.branches.specs.declared.Due.TheVariants.{NoRule, Rule as ARule}
+use Rattle.branches.specs.Moves.{due_unless, due_for, due_at, attempted_if, turn, LinesByDue}
 
 module _ (rs : List Rule) (p : Place) where
   due_spent : (o : Option Why) → ends Spent ≡ turn rs zero p (due_unless o)

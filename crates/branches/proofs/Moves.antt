@@ -10,7 +10,7 @@ use Rattle.resolution.proofs.Cells.{map-append}
 use Rattle.bindings.specs.declared.Cell.{Cell}
 use Rattle.bindings.specs.declared.Cell.TheVariants.{Free}
 use Rattle.bindings.specs.Meanings.{Trail, meaning}
-use Rattle.bindings.specs.Texts.{tree, term}
+use Rattle.bindings.specs.Texts.{term}
 use Rattle.bindings.specs.Trails.{trail, Since, Sound, none_bound}
 use Rattle.bindings.specs.Presents.{presents}
 use Rattle.bindings.specs.Checks.{undone}
@@ -19,12 +19,12 @@ use Rattle.bindings.proofs.Presents.{meaning_fresh, presents_length, map_apply}
 use Rattle.branches.specs.declared.Goals.{Goals}
 use Rattle.branches.specs.declared.Step.{Step}
 use Rattle.branches.specs.declared.Clause.{Clause}
-use Rattle.branches.specs.Rows.{after, row, Declared, Standing}
+use Rattle.branches.specs.Rows.{row, Declared}
 use Rattle.branches.specs.Clauses.{clause, rule_at, Stated}
-use Rattle.branches.specs.Branches.{later, own, behind, remaining, At, taken, branch, place, RowKept, StepKept, Kept, InOrder}
+use Rattle.branches.specs.Branches.{later, behind, remaining, At, taken, branch, place, RowKept, Kept, InOrder}
 use Rattle.branches.specs.Moves.{off}
 use Rattle.branches.proofs.Rows.{standing_more, declared_standing}
-use Rattle.branches.proofs.Remaining.{behind_newest, behind_none, remaining_older, remaining_first, later_next}
+use Rattle.branches.proofs.Remaining.{behind_newest, remaining_older, remaining_first}
 
 placed : {gs hs : List Term} {cs ds : List Term} {bs es : List Taken} (n : ℕ) → gs ≡ hs → cs ≡ ds → bs ≡ es
     → ◌≡◌ {A = Place} (record { goals = gs; due = n; cells = cs; branch = bs }) (record { goals = hs; due = n; cells = ds; branch = es })

@@ -1,20 +1,19 @@
 -- The goals that remain. Assumes nothing.
-use Rattle.std.proofs.Common.{◌≡◌, ℕ, zero, suc, ◌+◌, ◌<◌, ◌≤◌, Bool, true, false, cond, eqb, List, [], ◌∷◌, ◌++◌, map, length, sym, refl, ap, ◌∙◌, subst, ap₂, arith, eqb-true}
+use Rattle.std.proofs.Common.{◌≡◌, ℕ, suc, ◌<◌, ◌≤◌, Bool, false, cond, eqb, List, [], ◌∷◌, ◌++◌, map, length, sym, refl, ap, ◌∙◌, arith, eqb-true}
 use lib.Dec.{eqb_refl}
 use Rattle.terms.specs.Terms.{Term}
 use Rattle.unification.specs.Variables.{shifted}
 use Rattle.unification.proofs.Choice.{T→true, cond_at}
 use borrow.Author.Tests.{eqb-false as eqb_not}
 use Rattle.bindings.specs.declared.Cell.{Cell}
-use Rattle.bindings.specs.Texts.{tree, term}
+use Rattle.bindings.specs.Texts.{term}
 use Rattle.bindings.specs.Checks.{undone}
 use Rattle.bindings.proofs.Links.{eqb-false}
 use Rattle.branches.specs.declared.Goals.{Goals}
 use Rattle.branches.specs.declared.Step.{Step}
 use Rattle.branches.specs.declared.Clause.{Clause}
 use Rattle.branches.specs.Rows.{after, row, Standing}
-use Rattle.branches.specs.Clauses.{clause}
-use Rattle.branches.specs.Branches.{later, own, behind, remaining, RowKept, StepKept, Kept}
+use Rattle.branches.specs.Branches.{later, own, behind, remaining, Kept}
 use Rattle.branches.proofs.Rows.{standing_more}
 
 module _ (text : List ℕ) where

@@ -1,9 +1,9 @@
 -- Rows of terms in a text. Assumes nothing.
-use Rattle.std.proofs.Common.{◌≡◌, ℕ, zero, suc, ◌+◌, ◌<◌, ◌≤◌, List, [], ◌∷◌, map, length, sym, refl, ap, ◌∙◌, subst, ap₂, arith}
+use Rattle.std.proofs.Common.{◌≡◌, ℕ, zero, suc, ◌+◌, ◌≤◌, List, length, ap, arith}
 use Rattle.terms.specs.Terms.{Term}
-use Rattle.bindings.specs.Texts.{Spans, read_within, tree, Stands, Declares}
+use Rattle.bindings.specs.Texts.{Spans}
 use Rattle.bindings.proofs.Texts.{inside, spans_read, stands_more, declares_stands}
-use Rattle.branches.specs.Rows.{after, row, Declared, Standing}
+use Rattle.branches.specs.Rows.{after, Declared, Standing}
 
 -- The place after a term is where it ends.
 pub spans_after : (text : List ℕ) (p : ℕ) (t : Term) (q : ℕ) → Spans text p t q → after text p ≡ q

@@ -1,9 +1,9 @@
 -- The tests hold exactly where what they test holds. Assumes nothing.
-use Rattle.std.proofs.Common.{◌≡◌, ℕ, zero, suc, ◌+◌, ◌<◌, ◌≤◌, Bool, true, false, cond, ◌&&◌, eqb, ltb, leb, List, [], ◌∷◌, length, sym, refl, ap, ◌∙◌, subst, arith, ltb-true, lt-ltb, eq-eqb, ne_eqb, eqb-true, le-leb, leb-true}
+use Rattle.std.proofs.Common.{◌≡◌, ℕ, zero, suc, ◌<◌, Bool, true, cond, eqb, List, [], ◌∷◌, length, sym, refl, ap, ◌∙◌, arith, ltb-true, lt-ltb, eq-eqb, eqb-true, le-leb, leb-true}
 use Rattle.std.proofs.lemmas.Bool.{and_from, and_parts}
 use Rattle.unification.proofs.Choice.{cond_at}
 use Rattle.bindings.specs.declared.Cell.{Cell}
-use Rattle.bindings.specs.Checks.{stands?, declares?, undone, marked?, sound?}
+use Rattle.bindings.specs.Checks.{undone}
 use Rattle.bindings.proofs.Checks.{stands_true, true_stands, declares_true, true_declares, since_true, true_since, sound_true, true_sound}
 use Rattle.branches.specs.declared.Goals.{Goals}
 use Rattle.branches.specs.declared.Step.{Step}

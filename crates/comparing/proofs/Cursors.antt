@@ -9,7 +9,7 @@ use Rattle.grammar.specs.declared.commands.Command.TheVariants.{Atom, Var, Pair}
 use Rattle.resolution.specs.Cells.{cell, present}
 use Rattle.slips.proofs.Written.{ahead}
 use Rattle.comparing.specs.Streams.{first_of, after_first, text_first}
-use Rattle.comparing.specs.Cursors.{Stands, Listed, Means, Went, Took, weight, Nearer}
+use Rattle.comparing.specs.Cursors.{Stands, Means, Went, Took, weight, Nearer}
 use Rattle.comparing.proofs.Fronts.{few, text_front}
 
 pub first_append : (u : Term) (us xs : List Term) → first_of (u ∷ us) ≡ first_of ((u ∷ us) ++ xs)

@@ -1,10 +1,10 @@
 -- The rules of a store as texts. Assumes nothing.
-use Rattle.std.proofs.Common.{◌≡◌, ℕ, suc, ◌+◌, ◌<◌, ◌≤◌, min, Bool, true, false, cond, ◌&&◌, eqb, ltb, ◌⊎◌, List, [], ◌∷◌, ◌++◌, map, length, get_or, drop, Some, None, sym, refl, ap, ◌∙◌, subst, inl, inr, arith}
+use Rattle.std.proofs.Common.{◌≡◌, ℕ, ◌<◌, ◌≤◌, Bool, true, false, cond, ◌&&◌, eqb, ltb, ◌⊎◌, List, [], ◌∷◌, ◌++◌, map, length, get_or, drop, Some, None, sym, refl, ap, ◌∙◌, subst, inl, inr, arith}
 use lib.ListN.{length-map}
 use Rattle.std.proofs.lemmas.List.{get_or-map}
-use Rattle.std.proofs.lemmas.Bool.{eqb-true, ltb-true, lt-ltb, le-ltb, and_from, and_left, and_parts, cases_lt}
+use Rattle.std.proofs.lemmas.Bool.{eqb-true, lt-ltb, le-ltb, cases_lt}
 use Rattle.terms.specs.declared.Form.TheVariants.{Rules}
-use Rattle.terms.specs.Terms.{Term, Rule}
+use Rattle.terms.specs.Terms.{Term}
 use Rattle.terms.specs.Bytes.{two, encodings, AllFit}
 use Rattle.grammar.specs.Singles.{rule as read_rule}
 use Rattle.grammar.specs.Encodings.{rule_bytes, FitRule}
@@ -20,7 +20,7 @@ use Rattle.comparing.specs.declared.Source.{Source}
 use Rattle.comparing.specs.declared.Source.TheVariants.{Query as OfQuery, Rule as OfRule}
 use Rattle.comparing.specs.Cursors.{Listed, Means}
 use Rattle.comparing.specs.Texts.{text_in}
-use Rattle.comparing.proofs.Fronts.{byte_front, byte_end}
+use Rattle.comparing.proofs.Fronts.{byte_front}
 use Rattle.comparing.proofs.Cursors.{nothing_here}
 
 -- the bytes of a rule that is there

@@ -1,8 +1,7 @@
 -- The checker, from its first question to its last. Assumes nothing.
-use Rattle.std.proofs.Common.{◌≡◌, ℕ, zero, suc, ◌+◌, ◌-◌, ◌<◌, ◌≤◌, Bool, true, false, List, [], ◌∷◌, ◌++◌, map, length, get_or, drop, Ok, Err, Result, sym, refl, ap, ◌∙◌, subst, ap₂, append-nil, arith}
-use Rattle.terms.specs.declared.Form.TheVariants.{Rules}
+use Rattle.std.proofs.Common.{◌≡◌, ℕ, zero, suc, ◌-◌, ◌≤◌, Bool, true, false, List, [], ◌∷◌, ◌++◌, map, length, drop, Ok, Err, Result, sym, refl, ap, ◌∙◌, subst, ap₂, append-nil, arith}
 use Rattle.terms.specs.Terms.{Term, Rule, Query}
-use Rattle.terms.specs.Bytes.{encodings, AllFit}
+use Rattle.terms.specs.Bytes.{AllFit}
 use Rattle.grammar.specs.declared.faults.RuleFault.{RuleFault}
 use Rattle.grammar.specs.declared.faults.SingleFault.{SingleFault}
 use Rattle.grammar.specs.Asking.{ask, go}
@@ -19,17 +18,16 @@ use Rattle.slips.specs.declared.faults.CheckFault.TheVariants.{InQuery, InSlip}
 use Rattle.slips.specs.Slips.{end_byte}
 use Rattle.slips.specs.Checker.{is_only, opens, terms_at, step, steps, check}
 use Rattle.slips.specs.Opening.{rules_in}
-use Rattle.comparing.specs.declared.Cursor.{Cursor}
-use Rattle.comparing.specs.Cursors.{Listed, Means}
-use Rattle.comparing.specs.Parts.{opened, closed}
+use Rattle.comparing.specs.Cursors.{Means}
+use Rattle.comparing.specs.Parts.{closed}
 use Rattle.comparing.specs.Places.{where_to}
-use Rattle.comparing.specs.Stages.{nowhere, Tables, Sized, Has, Stage, Ready, Settled, Stepped}
+use Rattle.comparing.specs.Stages.{Tables, Has, Stage, Ready, Settled, Stepped}
 use Rattle.comparing.specs.Stacks.{Stacked}
 use Rattle.comparing.specs.Texts.{Comes}
 use Rattle.slips.proofs.Passing.{what_passes_follows}
 use Rattle.comparing.specs.Runs.{counted_by, steps_from, first_step, Begun, FollowsIfPassed}
 use Rattle.comparing.proofs.Cursors.{nothing_here}
-use Rattle.comparing.proofs.Terms.{TermsRead, terms_read_at, terms_fail_at}
+use Rattle.comparing.proofs.Terms.{terms_read_at}
 
 -- ── from step to step ──
 

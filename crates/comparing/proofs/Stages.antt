@@ -1,36 +1,21 @@
 -- How far a slip has been checked, from step to step. Assumes nothing.
-use Rattle.std.proofs.Common.{◌≡◌, ℕ, zero, suc, ◌+◌, ◌*◌, ◌<◌, ◌≤◌, Bool, true, false, ltb, ◌≢◌, List, [], ◌∷◌, ◌++◌, map, length, get_or, drop, set, Some, None, Ok, Err, Result, sym, refl, ap, ◌∙◌, subst, arith, length-set, get_or-set_other, get_or-set_same}
-use Rattle.std.proofs.lemmas.List.{drop-drop}
-use Rattle.std.proofs.lemmas.Bool.{ltb-true}
+use Rattle.std.proofs.Common.{◌≡◌, ℕ, suc, ◌<◌, Bool, true, false, List, [], ◌∷◌, ◌++◌, map, length, drop, Some, None, Ok, Err, Result, sym, refl, ap, ◌∙◌, subst, arith}
 use Rattle.terms.specs.declared.Form.TheVariants.{Rules}
 use Rattle.terms.specs.Terms.{Term, var, atom, pair, Rule}
 use Rattle.terms.specs.Bytes.{encodings}
-use Rattle.grammar.specs.declared.faults.CommandFault.{CommandFault}
-use Rattle.grammar.specs.declared.faults.RuleFault.{RuleFault}
-use Rattle.grammar.specs.declared.faults.RuleFault.TheVariants.{Command}
-use Rattle.grammar.specs.Asking.{ask, go}
-use Rattle.grammar.specs.Texts.{all_fit}
-use Rattle.grammar.proofs.Framed.{ask_yes, go_yes}
 use Rattle.stores.specs.Answers.{byte_at}
-use Rattle.resolution.specs.Rules.{rule}
 use Rattle.resolution.specs.Cells.{present}
-use Rattle.resolution.specs.Limits.{step_limit}
 use Rattle.slips.specs.declared.faults.SlipFault.{SlipFault}
-use Rattle.slips.specs.declared.faults.SlipFault.TheVariants.{Reading, NoStep, TooManySteps, NoRule, OtherGoal}
+use Rattle.slips.specs.declared.faults.SlipFault.TheVariants.{OtherGoal}
 use Rattle.slips.specs.declared.faults.CheckFault.{CheckFault}
 use Rattle.slips.specs.declared.faults.CheckFault.TheVariants.{InSlip}
-use Rattle.slips.specs.Slips.{step_byte}
-use Rattle.slips.specs.Checker.{begins, step_operands, step_size, has_rule, terms_at, same, step}
-use Rattle.slips.specs.Opening.{rules_in}
-use Rattle.comparing.specs.declared.Source.TheVariants.{Rule as OfRule}
-use Rattle.comparing.specs.declared.Cursor.{Cursor}
-use Rattle.comparing.specs.Cursors.{Listed, Means}
+use Rattle.slips.specs.Checker.{step}
+use Rattle.comparing.specs.Cursors.{Means}
 use Rattle.comparing.specs.Parts.{goal_shown}
-use Rattle.comparing.specs.Texts.{Comes}
 use Rattle.comparing.specs.Stacks.{Stacked}
-use Rattle.comparing.specs.Stages.{nowhere, has_some, Tables, Sized, Has, Stage, Ready, Settled, Stepped}
+use Rattle.comparing.specs.Stages.{has_some, Tables, Has, Stage, Settled, Stepped}
 use Rattle.comparing.proofs.Fronts.{byte_front, byte_end}
-use Rattle.comparing.proofs.Stacks.{stays, popped}
+use Rattle.comparing.proofs.Stacks.{popped}
 
 -- ── a cursor that is done ──
 

@@ -1,5 +1,5 @@
 -- One step of a slip. Assumes nothing.
-use Rattle.std.proofs.Common.{◌≡◌, ℕ, zero, suc, ◌+◌, ◌-◌, ◌*◌, ◌<◌, ◌≤◌, Bool, true, false, ltb, ◌≢◌, List, [], ◌∷◌, ◌++◌, map, length, get_or, drop, set, Ok, Err, Result, sym, refl, ap, ◌∙◌, subst, ap₂, append_assoc, arith, length-drop, length-set, get_or-set_other, get_or-set_same}
+use Rattle.std.proofs.Common.{◌≡◌, ℕ, suc, ◌+◌, ◌-◌, ◌<◌, ◌≤◌, Bool, true, false, ltb, ◌≢◌, List, [], ◌∷◌, ◌++◌, map, length, get_or, drop, set, Ok, Err, Result, sym, refl, ap, ◌∙◌, subst, arith, length-drop, length-set, get_or-set_other, get_or-set_same}
 use Rattle.std.proofs.lemmas.List.{drop-drop}
 use Rattle.std.proofs.lemmas.Bool.{ltb-true}
 use Rattle.terms.specs.Terms.{Term, Rule}
@@ -19,7 +19,6 @@ use Rattle.slips.specs.declared.faults.CheckFault.TheVariants.{InSlip}
 use Rattle.slips.specs.Slips.{step_byte}
 use Rattle.slips.specs.Checker.{begins, step_operands, step_size, has_rule, terms_at, same, step}
 use Rattle.slips.specs.Opening.{rules_in}
-use Rattle.comparing.specs.declared.Source.TheVariants.{Rule as OfRule}
 use Rattle.comparing.specs.declared.Cursor.{Cursor}
 use Rattle.comparing.specs.Cursors.{Stands, Listed, Means}
 use Rattle.comparing.specs.Comparisons.{Compared}
@@ -27,7 +26,7 @@ use Rattle.comparing.specs.Parts.{step_begun, step_chosen}
 use Rattle.comparing.specs.Places.{where_to}
 use Rattle.comparing.specs.Texts.{Comes, BothCome}
 use Rattle.comparing.specs.Stacks.{Stacked}
-use Rattle.comparing.specs.Stages.{nowhere, Tables, Sized, Has, Stage, Ready, Stepped, pushed, with_table, head_at}
+use Rattle.comparing.specs.Stages.{nowhere, Tables, Sized, Has, Ready, Stepped, pushed, with_table, head_at}
 use Rattle.comparing.proofs.Rules.{Chosen, chosen}
 use Rattle.comparing.proofs.Stacks.{stays}
 use Rattle.comparing.proofs.Terms.{TermsRead, terms_read_at, terms_fail_at}

@@ -1,5 +1,5 @@
 -- Reading the terms of a step one after the other. Assumes nothing.
-use Rattle.std.proofs.Common.{◌≡◌, ℕ, zero, suc, ◌+◌, ◌-◌, ◌<◌, ◌≤◌, ◌≢◌, List, [], ◌∷◌, ◌++◌, length, get_or, drop, set, Some, None, Ok, Err, Option, Result, sym, refl, ap, ◌∙◌, subst, ⊎_elim, append-nil, arith, length-append, get_or-set_other, get_or-set_same}
+use Rattle.std.proofs.Common.{◌≡◌, ℕ, zero, suc, ◌+◌, ◌-◌, ◌<◌, ◌≤◌, ◌≢◌, List, [], ◌∷◌, ◌++◌, length, get_or, drop, set, Some, None, Ok, Err, Option, Result, sym, refl, ap, ◌∙◌, subst, ⊎_elim, arith, get_or-set_other, get_or-set_same}
 use Rattle.std.proofs.lemmas.List.{get_or_append_left, get_or-append_right}
 use Rattle.std.proofs.lemmas.Bool.{cases_lt}
 use Rattle.terms.specs.declared.Form.TheVariants.{Slips}
@@ -14,7 +14,7 @@ use Rattle.grammar.specs.declared.faults.CommandFault.{CommandFault}
 use Rattle.grammar.specs.declared.faults.RuleFault.TheVariants.{Command as InCommand, TermMissing}
 use Rattle.grammar.proofs.Taking.{Front, atom_front, pair_front, unknown_front, front, place_first}
 use Rattle.grammar.proofs.Counting.{Reading, Counted, counted, with_terms, then_terms, plus, then_others}
-use Rattle.grammar.proofs.Encoded.{Encoded, Encodes, encoded, bytes_drop}
+use Rattle.grammar.proofs.Encoded.{Encodes, encoded, bytes_drop}
 use Rattle.reading.specs.Taking.{first_command, taken_size, left}
 use Rattle.reading.proofs.Passing.{took, fewer, Sofar, Declared, then_due, goes_on, finds, at_front}
 use Rattle.resolution.specs.Cells.{cell}

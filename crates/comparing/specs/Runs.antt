@@ -1,5 +1,5 @@
 -- Checking a slip from a stage on, and what is checked before the first step. Assumes nothing.
-use Rattle.std.specs.Prelude.{◌≡◌, ℕ, ◌-◌, List, [], length, Ok, Err, Result, slice_index_or}
+use Rattle.std.specs.Prelude.{◌≡◌, ℕ, ◌-◌, List, Ok, Result, slice_index_or}
 use Rattle.terms.specs.Terms.{Term, Rule, Query}
 use Rattle.grammar.specs.Asking.{go}
 use Rattle.grammar.specs.Singles.{query}
@@ -15,7 +15,7 @@ use Rattle.slips.specs.Opening.{rules_in}
 use Rattle.comparing.specs.Cursors.{Listed}
 use Rattle.comparing.specs.Parts.{opened}
 use Rattle.comparing.specs.Places.{where_to}
-use Rattle.comparing.specs.Stages.{nowhere, Tables, Sized, Stage}
+use Rattle.comparing.specs.Stages.{nowhere, Tables, Sized}
 
 -- a fault in the slip, when n steps are done
 abbrev pub counted_by : {T : Type 0} → ℕ → Result T SlipFault → Result T CheckFault

@@ -1,16 +1,12 @@
 -- A try where one can be made: the tables after it are in order, and mean what the definition says. Assumes nothing.
-use Rattle.std.proofs.Common.{◌≡◌, ℕ, zero, suc, ◌+◌, ◌-◌, ◌<◌, ◌≤◌, Bool, true, false, ltb, List, [], ◌∷◌, ◌++◌, map, length, get_or, set, sym, refl, ap, ◌∙◌, subst, ap₂, le_refl, arith, length-set, get_or-set_other, get_or-set_same, ltb-false, ltb-true}
+use Rattle.std.proofs.Common.{◌≡◌, ℕ, zero, suc, ◌+◌, ◌-◌, ◌<◌, ◌≤◌, Bool, true, false, ltb, List, ◌∷◌, ◌++◌, map, length, get_or, set, sym, refl, ap, ◌∙◌, subst, ap₂, le_refl, arith, length-set, get_or-set_other, get_or-set_same, ltb-false, ltb-true}
 use mathlib.Core.Option.{Option, none, some}
-use Rattle.terms.specs.Terms.{Term}
 use Rattle.unification.specs.Variables.{shifted}
-use Rattle.unification.specs.Substitutions.{Substitution, apply}
+use Rattle.unification.specs.Substitutions.{Substitution}
 use Rattle.unification.specs.Unification.{unify}
-use Rattle.resolution.specs.Cells.{fresh}
-use Rattle.resolution.specs.Lines.{Place, landed}
-use Rattle.bindings.specs.declared.Cell.{Cell}
-use Rattle.bindings.specs.Meanings.{meaning}
+use Rattle.resolution.specs.Lines.{landed}
 use Rattle.bindings.specs.Texts.{tree, Stands}
-use Rattle.bindings.specs.Trails.{trail, Since, Sound}
+use Rattle.bindings.specs.Trails.{trail, Since}
 use Rattle.bindings.specs.Presents.{presents}
 use Rattle.bindings.specs.Checks.{undone}
 use Rattle.bindings.proofs.Chains.{true_not_false}
@@ -20,14 +16,13 @@ use Rattle.branches.specs.declared.Clause.{Clause}
 use Rattle.branches.specs.declared.Goals.{Goals}
 use Rattle.branches.specs.declared.Step.{Step}
 use Rattle.branches.specs.declared.Due.{Due}
-use Rattle.branches.specs.declared.Due.TheVariants.{Nothing, NoRule, Stop, Rule as ARule}
-use Rattle.resolution.specs.declared.Stop.TheVariants.{Deep, Cells as Short}
+use Rattle.branches.specs.declared.Due.TheVariants.{Rule as ARule}
 use Rattle.branches.specs.Rows.{row, Standing}
 use Rattle.branches.specs.Clauses.{no_clause, clause, rule_at, Stated}
-use Rattle.branches.specs.Branches.{later, remaining, At, place, RowKept, Kept, InOrder}
+use Rattle.branches.specs.Branches.{later, remaining, At, RowKept, Kept}
 use Rattle.branches.specs.Moves.{due_at, attempted}
 use Rattle.branches.proofs.Tests.{stated_at}
-use Rattle.branches.proofs.Moves.{new_step, at_taken, taken_place, taken_kept, with_goals, with_goals_kept, without_goals, still_kept}
+use Rattle.branches.proofs.Moves.{at_taken, taken_place, taken_kept, with_goals, with_goals_kept, without_goals, still_kept}
 use Rattle.branches.proofs.Dues.{first_goal, other_goals, attempted_is, failed_place, failed_in_order}
 use Rattle.machine.specs.declared.attempt.Head.{Head}
 use Rattle.machine.specs.declared.branch.Branch.{Branch}

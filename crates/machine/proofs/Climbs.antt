@@ -1,19 +1,19 @@
 -- Going up the branch for the goals that remain. Assumes nothing.
-use Rattle.std.proofs.Common.{◌≡◌, ℕ, zero, suc, ◌+◌, ◌-◌, ◌<◌, ◌≤◌, Bool, true, false, cond, eqb, List, [], ◌∷◌, ◌++◌, map, length, get_or, sym, refl, ap, ◌∙◌, subst, arith, eqb-true}
+use Rattle.std.proofs.Common.{◌≡◌, ℕ, zero, suc, ◌-◌, ◌<◌, ◌≤◌, false, eqb, List, ◌++◌, map, length, get_or, sym, refl, ap, ◌∙◌, subst, arith, eqb-true}
 use borrow.Author.Tests.{eqb-false}
 use Rattle.terms.specs.Terms.{Term}
 use Rattle.unification.specs.Variables.{shifted}
 use Rattle.unification.proofs.Choice.{cond_at}
-use Rattle.bindings.specs.Texts.{Spans, tree, Stands}
+use Rattle.bindings.specs.Texts.{Spans, tree}
 use Rattle.branches.specs.declared.Goals.{Goals}
 use Rattle.branches.specs.declared.Step.{Step}
 use Rattle.branches.specs.Rows.{after, row, Standing}
-use Rattle.branches.specs.Branches.{later, behind, remaining, RowKept, Kept}
+use Rattle.branches.specs.Branches.{later, behind, remaining, RowKept}
 use Rattle.branches.proofs.Rows.{spans_after}
-use Rattle.branches.proofs.Remaining.{behind_none, later_next, later_above, step_at, TriedOn, kept_at, behind_at}
+use Rattle.branches.proofs.Remaining.{later_next, later_above, step_at, TriedOn, kept_at, behind_at}
 use Rattle.machine.specs.declared.tables.Tables.{Tables}
 use Rattle.machine.specs.Branches.{no_step, newest_first}
-use Rattle.machine.specs.Climbs.{steps_in, RowOver, Climbing, Climbed}
+use Rattle.machine.specs.Climbs.{steps_in, RowOver}
 
 pub newest_length : (steps : List Step) (d : ℕ) → length (newest_first steps d) ≡ d
 unfolding newest_first

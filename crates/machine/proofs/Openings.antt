@@ -1,6 +1,6 @@
 -- What opening copies, and what comes of it. Assumes nothing.
 use Rattle.std.proofs.Common.{◌≡◌, ℕ, zero, suc, ◌+◌, ◌<◌, ◌≤◌, Bool, true, false, cond, ltb, leb, List, [], ◌∷◌, ◌++◌, length, get_or, take, set, Some, None, Ok, Err, Result, sym, refl, ap, ◌∙◌, subst, ap₂, arith, length-append, length-set, length-take-le, ltb-false, le-leb}
-use Rattle.terms.specs.Terms.{Term, Rule, Query}
+use Rattle.terms.specs.Terms.{Term, Query}
 use Rattle.grammar.specs.declared.faults.SingleFault.{SingleFault}
 use Rattle.grammar.specs.Asking.{ask, go}
 use Rattle.grammar.specs.Items.{most_bytes, most_rules}
@@ -35,7 +35,6 @@ use Rattle.grammar.proofs.Alone.{queries_inverse}
 use Rattle.reading.specs.Views.{seen, QueryView, query_shown}
 use Rattle.stores.specs.Answers.{count_of, byte_at, byte_of}
 use Rattle.stores.proofs.Piled.{there}
-
 
 -- Where no byte comes, the rule is at its end.
 pub byte_none : (ts : List (List ℕ)) (i : ℕ) → i < count_of ts → (j : ℕ) → None ≡ byte_of ts i j → length (get_or ts i []) ≤ j

@@ -1,36 +1,26 @@
 -- The tables of a search stay in order, and mean what the definition says, as it moves. Assumes nothing.
-use Rattle.std.proofs.Common.{◌≡◌, ℕ, zero, suc, ◌+◌, ◌-◌, ◌<◌, ◌≤◌, Bool, true, false, List, [], ◌∷◌, ◌++◌, map, length, get_or, take, set, sym, refl, ap, ◌∙◌, subst, ap₂, le_refl, arith, length-set, length-take, length-take-le, get_or-set_other, get_or-take, get_or-set_same, eq-eqb, eqb-true, le-leb, leb-true}
-use mathlib.Core.Option.{Option, none, some}
+use Rattle.std.proofs.Common.{◌≡◌, ℕ, suc, ◌-◌, ◌<◌, ◌≤◌, Bool, true, false, List, ◌∷◌, length, get_or, take, sym, refl, ap, ◌∙◌, subst, ap₂, arith, length-take-le, get_or-take, eq-eqb, eqb-true, le-leb, leb-true}
 use Rattle.std.proofs.lemmas.Bool.{and_from, and_parts}
-use Rattle.terms.specs.Terms.{Term, Query}
-use Rattle.unification.specs.Variables.{shifted}
-use Rattle.unification.specs.Substitutions.{Substitution}
-use Rattle.unification.specs.Unification.{unify}
 use Rattle.resolution.specs.declared.Stop.TheVariants.{Deep, Cells as Short}
-use Rattle.resolution.specs.Lines.{Step as TakenStep, Place, landed}
+use Rattle.resolution.specs.Lines.{Place}
 use Rattle.resolution.specs.Search.{opened}
 use Rattle.bindings.specs.declared.Cell.{Cell}
 use Rattle.bindings.specs.declared.Cell.TheVariants.{Free}
-use Rattle.bindings.specs.Texts.{tree, Stands}
-use Rattle.bindings.specs.Trails.{Since, Sound, none_bound}
+use Rattle.bindings.specs.Trails.{Since, none_bound}
 use Rattle.bindings.specs.Checks.{undone}
-use Rattle.bindings.proofs.Links.{sound_mark, since_length}
-use Rattle.bindings.proofs.Checks.{since_undone}
+use Rattle.bindings.proofs.Links.{since_length}
 use Rattle.branches.specs.declared.Clause.{Clause}
 use Rattle.branches.specs.declared.Goals.{Goals}
 use Rattle.branches.specs.declared.Step.{Step}
 use Rattle.branches.specs.declared.Due.TheVariants.{Nothing, NoRule, Stop, Rule as ARule}
-use Rattle.branches.specs.Rows.{row, Declared, Standing}
-use Rattle.branches.specs.Clauses.{no_clause, clause, rule_at, rules_at, Stated}
-use Rattle.branches.specs.Branches.{later, remaining, At, taken, branch, place, RowKept, StepKept, Kept, InOrder}
-use Rattle.branches.specs.Moves.{due_at, off, attempted}
+use Rattle.branches.specs.Rows.{row, Declared}
+use Rattle.branches.specs.Clauses.{no_clause, clause, rules_at}
+use Rattle.branches.specs.Branches.{At, branch, place, StepKept, Kept, InOrder}
+use Rattle.branches.specs.Moves.{due_at, off}
 use Rattle.branches.specs.Tests.{all_stated?}
-use Rattle.branches.proofs.Tests.{declared_true, true_declared, stated_at, in_order_true, true_in_order}
-use Rattle.branches.proofs.Remaining.{remaining_older}
-use Rattle.branches.proofs.Moves.{at_start, start_place, start_in_order, at_back, off_place, back_in_order, new_step, at_taken, taken_place, taken_kept, with_goals, with_goals_kept, without_goals, still_kept}
-use Rattle.branches.proofs.Dues.{due_nothing, due_no_rule, due_deep, due_cells, due_rule, goals_are, attempted_is, failed_place, failed_in_order}
-use Rattle.machine.specs.declared.cells.Cells.{Cells}
-use Rattle.machine.specs.declared.tables.Tables.{Tables}
+use Rattle.branches.proofs.Tests.{declared_true, true_declared, in_order_true, true_in_order}
+use Rattle.branches.proofs.Moves.{at_start, start_place, start_in_order, at_back, off_place, back_in_order}
+use Rattle.branches.proofs.Dues.{due_nothing, due_no_rule, due_deep, due_cells, due_rule}
 use Rattle.machine.specs.declared.state.State.{State}
 use Rattle.machine.specs.declared.state.Question.{Question}
 use Rattle.machine.specs.declared.text.Text.{Text}

@@ -1,5 +1,5 @@
 -- A try comes out as the definition of unification says. Assumes nothing.
-use Rattle.std.proofs.Common.{◌≡◌, ℕ, ◌+◌, ◌≤◌, Bool, true, false, List, length, sym, refl, ap, ◌∙◌, subst, le_refl, arith}
+use Rattle.std.proofs.Common.{◌≡◌, ℕ, ◌+◌, Bool, true, false, List, length, sym, refl, ap, ◌∙◌, subst, le_refl, arith}
 use mathlib.Core.Option.{Option, none, some}
 use Rattle.terms.specs.Terms.{Term}
 use Rattle.unification.specs.Substitutions.{Substitution}
@@ -15,7 +15,7 @@ use Rattle.bindings.proofs.Links.{sound_more}
 use Rattle.bindings.proofs.Presents.{meaning_fresh, presents_stepped}
 use Rattle.machine.specs.declared.cells.Cells.{Cells}
 use Rattle.machine.specs.declared.attempt.Head.{Head}
-use Rattle.machine.specs.Tries.{found, goal_term, Ready, Taken, Outcome, Tried}
+use Rattle.machine.specs.Tries.{found, goal_term, Ready, Outcome, Tried}
 
 module _ {text : List ℕ} {c : Cells} {r : Head} {g : TermAt} (ready : Ready text c r g) where
   -- The cells with the fresh ones in use are in order, and head and goal stand over them.

@@ -5,7 +5,6 @@ use Rattle.branches.specs.declared.Clause.{Clause}
 use Rattle.branches.specs.declared.Goals.{Goals}
 use Rattle.branches.specs.declared.Step.{Step}
 use Rattle.branches.specs.Branches.{later, remaining, RowKept, Kept}
-use Rattle.machine.specs.declared.branch.Branch.{Branch}
 use Rattle.machine.specs.declared.tables.Tables.{Tables}
 use Rattle.machine.specs.Branches.{newest_first}
 

@@ -1,11 +1,10 @@
-use Rattle.std.proofs.Common.{◌≡◌, IfOk, Ok, Err, sym, refl, ap, ◌∙◌, subst, arith}
+use Rattle.std.proofs.Common.{IfOk, Err, sym, ap, ◌∙◌, subst}
 use Rattle.std.proofs.lemmas.Result.{err_from_is_err_and}
 use Rattle.slips.specs.Opening.{rules_in}
-use Rattle.slips.specs.declared.faults.CheckFault.TheVariants.{InQuery}
 use Rattle.reading.specs.Views.{seen, query_view}
 use Rattle.reading.proofs.Parts.{known}
 use Rattle.comparing.specs.Runs.{Begun, steps_from}
-use Rattle.comparing.proofs.Runs.{QueryRead, query_read, query_fails, few_variables, short_body, not_begun, Start, start, counted_ok, counted_err, follows}
+use Rattle.comparing.proofs.Runs.{QueryRead, query_read, short_body, not_begun, Start, start, counted_ok, counted_err, follows}
 use Rattle.checker.specs.Progress.{tables}
 use Rattle.checker.proofs.check.Given as given
 use Rattle.checker.proofs.check.Goals as goal

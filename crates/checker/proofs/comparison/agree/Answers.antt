@@ -1,9 +1,9 @@
-use Rattle.std.proofs.Common.{◌≡◌, ℕ, ◌+◌, ◌-◌, ◌<◌, ◌≤◌, List, ◌∷◌, ◌++◌, length, Some, None, sym, refl, ap, ◌∙◌, subst, arith, length-append, rules}
+use Rattle.std.proofs.Common.{◌≡◌, ℕ, ◌+◌, ◌-◌, ◌≤◌, List, ◌++◌, length, Some, sym, subst, arith, length-append, rules}
 use Rattle.terms.specs.Terms.{Term}
 use Rattle.comparing.specs.Streams.{due_after}
 use Rattle.comparing.specs.Cursors.{Took}
 use Rattle.comparing.specs.Comparisons.{Comparing}
-use Rattle.comparing.specs.Texts.{Comes, text_in}
+use Rattle.comparing.specs.Texts.{Comes}
 use Rattle.comparing.proofs.Cursors.{few_come}
 use Rattle.comparing.proofs.Comparisons.{first_terms, all_compared, one_more, other_more, found_other, goes_on}
 use Rattle.comparing.proofs.Rules.{text_short}

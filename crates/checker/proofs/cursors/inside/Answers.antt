@@ -1,9 +1,6 @@
-use Rattle.std.proofs.Common.{◌≡◌, ℕ, ◌+◌, ◌-◌, ◌<◌, ◌≤◌, length, drop, Some, Ok, sym, refl, ap, ◌∙◌, ap₂, arith, rules}
+use Rattle.std.proofs.Common.{◌≡◌, ℕ, ◌+◌, drop, Some, Ok, sym, refl, ap, ◌∙◌, ap₂, arith}
 use Rattle.terms.specs.declared.Form.TheVariants.{Slips}
-use Rattle.grammar.specs.declared.commands.Command.{Command}
-use Rattle.grammar.specs.declared.commands.Command.TheVariants.{Pair}
 use Rattle.reading.specs.Taking.{first_command, size, taken_size}
-use Rattle.comparing.specs.Streams.{due_after}
 use Rattle.comparing.proofs.Fronts.{few, front_there, went_on}
 use Rattle.checker.proofs.cursors.inside.Goals as goal
 use Rattle.checker.proofs.cursors.inside.Goals.{In_ok-command}

@@ -1,6 +1,4 @@
-use Rattle.std.proofs.Common.{◌≡◌, ℕ, ◌+◌, ◌<◌, ◌≤◌, length, Some, None, sym, refl, ap, ◌∙◌, subst, arith, rules}
-use Rattle.grammar.specs.declared.commands.Command.TheVariants.{Atom, Var, Pair}
-use Rattle.comparing.specs.Streams.{text_first}
+use Rattle.std.proofs.Common.{◌≡◌, ◌+◌, ◌<◌, Some, sym, ap, ◌∙◌, subst, arith, rules}
 use Rattle.comparing.specs.Cursors.{Took, weight, Nearer}
 use Rattle.comparing.specs.Texts.{text_in, Comes}
 use Rattle.comparing.proofs.Fronts.{text_inside}

@@ -1,4 +1,4 @@
-use Rattle.std.proofs.Common.{◌≡◌, ℕ, ◌+◌, ◌-◌, ◌<◌, ◌≤◌, List, length, Ok, Err, sym, refl, ap, ◌∙◌, subst, arith, get_or-set_other}
+use Rattle.std.proofs.Common.{◌≡◌, ℕ, ◌+◌, List, Ok, Err, ap, ◌∙◌, subst, arith, get_or-set_other}
 use Rattle.terms.specs.Terms.{Term}
 use Rattle.slips.specs.Checker.{terms_at}
 use Rattle.comparing.specs.Cursors.{Listed}

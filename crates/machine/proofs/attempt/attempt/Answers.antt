@@ -1,4 +1,4 @@
-use Rattle.std.proofs.Common.{◌≡◌, ℕ, ◌≤◌, List, length, ap₂, rules}
+use Rattle.std.proofs.Common.{◌≡◌, ℕ, List, length, ap₂, rules}
 use Rattle.bindings.specs.declared.Cell.{Cell}
 use Rattle.machine.proofs.Tries.{ready_sound, ready_head, ready_goal, tried_no, tried_yes}
 use Rattle.machine.proofs.attempt.attempt.Goals as goal

@@ -1,5 +1,4 @@
-use Rattle.std.proofs.Common.{◌≡◌, ℕ, true, false, List, sym, ap, ◌∙◌, subst, rules}
-use Rattle.bindings.specs.declared.Cell.{Cell}
+use Rattle.std.proofs.Common.{◌≡◌, true, false, sym, ap, ◌∙◌, rules}
 use Rattle.bindings.specs.Trails.{Since}
 use Rattle.bindings.proofs.Chains.{true_not_false}
 use Rattle.bindings.proofs.Links.{sound_mark}

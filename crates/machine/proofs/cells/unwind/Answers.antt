@@ -1,4 +1,4 @@
-use Rattle.std.proofs.Common.{◌<◌, length, rules}
+use Rattle.std.proofs.Common.{rules}
 use Rattle.bindings.proofs.Chains.{step_back, step_on, at_mark, bound_count_less, bound_not_free}
 use Rattle.machine.proofs.cells.unwind.Goals as goal
 

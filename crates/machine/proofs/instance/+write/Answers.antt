@@ -1,5 +1,4 @@
-use Rattle.std.proofs.Common.{◌≡◌, ℕ, ◌<◌, ◌≤◌, arith, rules}
-use Rattle.slips.specs.Numberings.{names_after}
+use Rattle.std.proofs.Common.{arith, rules}
 use Rattle.bindings.proofs.Shapes.{split, split_first, split_is, part_stands, size_first, size_rest}
 use Rattle.machine.proofs.Numberings.{writes_as, writes_atom, pair_over, first_over, pair_then}
 use Rattle.machine.proofs.instance.+write.Goals as goal

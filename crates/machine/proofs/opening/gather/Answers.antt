@@ -1,4 +1,4 @@
-use Rattle.std.proofs.Common.{◌≡◌, ℕ, suc, ◌+◌, ◌<◌, ◌≤◌, List, [], length, get_or, take, sym, refl, ap, ◌∙◌, subst, ap₂, arith, rules}
+use Rattle.std.proofs.Common.{◌≡◌, ℕ, suc, ◌+◌, ◌<◌, List, [], length, get_or, take, sym, ap, ◌∙◌, subst, arith, rules}
 use Rattle.std.proofs.lemmas.List.{take_all}
 use Rattle.std.proofs.lemmas.Result.{err_from_is_err_and}
 use Rattle.grammar.specs.Singles.{rule}
@@ -9,7 +9,7 @@ use Rattle.machine.specs.Openings.{AllCopied, Gathered}
 use Rattle.grammar.proofs.Fitting.{FitText, fit_text, fit_at}
 use Rattle.bindings.specs.Texts.{Holds}
 use Rattle.branches.proofs.Copies.{fit_rule}
-use Rattle.machine.proofs.Openings.{copied_none, size_so_far, room_so_far, count_so_far, too_many, rule_holds, size_after, copied_more}
+use Rattle.machine.proofs.Openings.{copied_none, size_so_far, room_so_far, too_many, rule_holds, size_after, copied_more}
 use Rattle.machine.proofs.opening.gather.Goals as goal
 
 pub loop-rule-init : goal.loop-rule-init

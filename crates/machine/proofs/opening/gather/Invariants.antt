@@ -1,5 +1,4 @@
-use Rattle.std.proofs.Common.{◌≡◌, ◌+◌, ◌≤◌, length, take}
-use Rattle.branches.specs.Copies.{flat, clauses_from}
+use Rattle.std.proofs.Common.{take}
 use Rattle.machine.specs.Openings.{AllCopied}
 use Rattle.machine.proofs.opening.gather.Given as goal
 

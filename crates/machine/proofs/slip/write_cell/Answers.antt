@@ -1,4 +1,3 @@
-use Rattle.std.proofs.Common.{◌≡◌}
 use Rattle.bindings.proofs.Links.{sound_free, sound_bound}
 use Rattle.machine.proofs.Numberings.{writes_as}
 use Rattle.machine.proofs.slip.write_cell.Goals as goal

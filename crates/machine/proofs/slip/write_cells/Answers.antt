@@ -1,9 +1,7 @@
-use Rattle.std.proofs.Common.{◌≡◌, List, subst, arith}
-use Rattle.terms.specs.Terms.{Term}
+use Rattle.std.proofs.Common.{arith}
 use Rattle.slips.specs.Numberings.{by_first}
 use Rattle.bindings.specs.Trails.{trail}
 use Rattle.bindings.proofs.Presents.{presents_part, cells_none, cells_more, cells_all}
-use Rattle.machine.specs.Numberings.{WritesAll}
 use Rattle.machine.proofs.Sinks.{puts_room}
 use Rattle.machine.proofs.Numberings.{all_as, all_over, all_then, all_none}
 use Rattle.machine.proofs.slip.write_cells.Goals as goal

@@ -1,4 +1,4 @@
-use Rattle.std.proofs.Common.{◌≡◌, ℕ, suc, ◌+◌, ◌<◌, ◌≤◌, sym, ◌∙◌, arith, rules}
+use Rattle.std.proofs.Common.{sym, ◌∙◌, arith, rules}
 use Rattle.bindings.proofs.Shapes.{split, split_first, split_is, part_stands, occurs_yes, occurs_no, size_first, size_rest}
 use Rattle.machine.proofs.unify.+occurs.Goals as goal
 

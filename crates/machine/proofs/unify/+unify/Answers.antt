@@ -1,11 +1,11 @@
-use Rattle.std.proofs.Common.{◌≡◌, ℕ, ◌<◌, sym, refl, ◌∙◌, ap₂, rules}
+use Rattle.std.proofs.Common.{ℕ, sym, refl, ◌∙◌, ap₂, rules}
 use Rattle.terms.specs.Terms.{Term}
 use Rattle.bindings.specs.Meanings.{meaning}
 use Rattle.bindings.specs.Texts.{term}
 use Rattle.bindings.specs.Trails.{trail}
 use Rattle.bindings.proofs.Endings.{case_equal, case_same, case_left, case_atom_right, case_pair_right, case_atoms, case_atom_pair, case_pair_atom, case_pairs, var_other, not_open, first_failed, weight_first}
-use Rattle.bindings.proofs.Shapes.{Split, split, split_first, split_is, part_stands}
-use Rattle.machine.proofs.Turns.{Goes, Rest, only_then, turn_less, goes_on}
+use Rattle.bindings.proofs.Shapes.{split, split_first, split_is, part_stands}
+use Rattle.machine.proofs.Turns.{only_then, turn_less, goes_on}
 use Rattle.machine.proofs.unify.+unify.Goals as goal
 
 pub first-requires : goal.first-requires

@@ -1,9 +1,9 @@
-use Rattle.std.proofs.Common.{◌≡◌, ℕ, suc, ◌-◌, ◌<◌, ◌≤◌, List, Ok, Err, sym, refl, ap, ◌∙◌, subst, arith, rules}
+use Rattle.std.proofs.Common.{◌≡◌, suc, ◌≤◌, List, Err, ap, ◌∙◌}
 use Rattle.std.proofs.lemmas.Result.{err_from_is_err_and}
 use Rattle.terms.specs.Terms.{Term}
 use Rattle.resolution.specs.Limits.{step_limit}
 use Rattle.comparing.specs.Stages.{Stage}
-use Rattle.comparing.proofs.Runs.{Onward, begin, ready_there, counted_turn, counted_fails, closes}
+use Rattle.comparing.proofs.Runs.{Onward, counted_turn, counted_fails}
 use Rattle.checker.specs.Progress.{tables}
 use Rattle.checker.proofs.progress.Progress.run.Given as given
 use Rattle.checker.proofs.progress.Progress.run.Goals as goal

@@ -1,5 +1,5 @@
-use Rattle.std.proofs.Common.{◌≡◌, ℕ, suc, ◌+◌, ◌-◌, ◌<◌, ◌≤◌, sym, refl, ap, ◌∙◌, subst, arith}
-use Rattle.comparing.proofs.Stages.{one_off, ready, nothing_left}
+use Rattle.std.proofs.Common.{◌≡◌, suc, ◌-◌, sym, ◌∙◌, subst, arith}
+use Rattle.comparing.proofs.Stages.{one_off, ready}
 use Rattle.comparing.specs.Texts.{Comes}
 use Rattle.checker.proofs.progress.Progress.settle.Goals as goal
 

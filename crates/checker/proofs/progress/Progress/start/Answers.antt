@@ -1,4 +1,4 @@
-use Rattle.std.proofs.Common.{◌≡◌, ℕ, ◌+◌, ◌<◌, ◌≤◌, List, length, get_or, replicate, Ok, Err, sym, refl, ap, ◌∙◌, subst, zero-add, arith}
+use Rattle.std.proofs.Common.{◌≡◌, ℕ, List, Ok, refl, ap, ◌∙◌, subst, zero-add, arith}
 use lib.ListN.{length-replicate}
 use Rattle.terms.specs.Terms.{Term}
 use Rattle.grammar.specs.Asking.{go}

@@ -1,4 +1,4 @@
-use Rattle.std.proofs.Common.{◌+◌, ◌<◌, ◌≤◌, length, arith, rules}
+use Rattle.std.proofs.Common.{◌+◌, ◌<◌, arith, rules}
 use Rattle.comparing.specs.Texts.{text_in}
 use Rattle.comparing.proofs.Fronts.{byte_inside}
 use Rattle.comparing.proofs.Rules.{text_short}

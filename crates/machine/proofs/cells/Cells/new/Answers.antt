@@ -1,5 +1,4 @@
 use Rattle.std.proofs.Common.{refl}
-use Rattle.bindings.specs.declared.Cell.TheVariants.{Free}
 use Rattle.bindings.proofs.Links.{filled_free}
 use Rattle.machine.proofs.cells.Cells.new.Goals as goal
 

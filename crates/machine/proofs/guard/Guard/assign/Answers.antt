@@ -1,4 +1,4 @@
-use Rattle.std.proofs.Common.{◌≡◌, sym, ◌∙◌, arith, rules}
+use Rattle.std.proofs.Common.{sym, ◌∙◌, arith}
 use Rattle.bindings.specs.Trails.{meaning_at}
 use Rattle.bindings.proofs.Endings.{assign_no, assign_yes}
 use Rattle.machine.proofs.Turns.{only_nothing}

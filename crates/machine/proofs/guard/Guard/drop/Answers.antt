@@ -1,4 +1,4 @@
-use Rattle.std.proofs.Common.{◌≡◌, sym, ◌∙◌, rules}
+use Rattle.std.proofs.Common.{sym, ◌∙◌}
 use Rattle.bindings.proofs.Chains.{true_not_false}
 use Rattle.machine.proofs.guard.Guard.drop.Goals as goal
 use Rattle.machine.proofs.guard.Guard.drop.Goals.{then-not-keep, else-not-keep}

@@ -1,4 +1,4 @@
-use Rattle.std.proofs.Common.{◌≡◌, ℕ, Bool, cond, List, set, sym, ap, ◌∙◌, arith}
+use Rattle.std.proofs.Common.{ℕ, Bool, cond, List, set, sym, ap, ◌∙◌, arith}
 use Rattle.machine.specs.declared.instance.Sink.{Sink}
 use Rattle.machine.proofs.Sinks.{one_put}
 use Rattle.machine.proofs.instance.Sink.put.Goals as goal

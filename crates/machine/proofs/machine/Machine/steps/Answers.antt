@@ -1,4 +1,4 @@
-use Rattle.std.proofs.Common.{◌≡◌, sym, ◌∙◌, rules}
+use Rattle.std.proofs.Common.{sym, ◌∙◌, rules}
 use Rattle.branches.proofs.Dues.{branch_length}
 use Rattle.machine.specs.Climbs.{steps_in}
 use Rattle.machine.specs.States.{text_of}

@@ -1,4 +1,4 @@
-use Rattle.std.proofs.Common.{ℕ, ◌<◌, ◌≤◌, length, refl, arith}
+use Rattle.std.proofs.Common.{◌≤◌, length, refl, arith}
 use Rattle.slips.proofs.Numberings.{numbers_few, numbers_known, numbers_new}
 use Rattle.machine.proofs.numbering.Numbering.number.Goals as goal
 

@@ -1,4 +1,4 @@
-use Rattle.std.proofs.Common.{◌≡◌, ℕ, suc, ◌+◌, ◌<◌, ◌≤◌, sym, refl, ap, ◌∙◌, subst, arith, rules}
+use Rattle.std.proofs.Common.{◌≡◌, suc, ◌+◌, refl, arith, rules}
 use Rattle.machine.specs.declared.state.State.{State}
 use Rattle.machine.specs.States.{SameBook}
 use Rattle.machine.proofs.States.{true_good}

@@ -1,12 +1,11 @@
-use Rattle.std.proofs.Common.{◌≡◌, ℕ, suc, ◌+◌, ◌-◌, ◌<◌, ◌≤◌, Bool, false, List, get_or, sym, refl, ap, ◌∙◌, subst, arith, rules}
+use Rattle.std.proofs.Common.{◌≡◌, ℕ, suc, ◌+◌, ◌-◌, Bool, false, List, get_or, sym, refl, ap, ◌∙◌, subst, arith, rules}
 use Rattle.resolution.specs.Lines.{Place}
-use Rattle.branches.specs.declared.Goals.{Goals}
 use Rattle.branches.specs.declared.Step.{Step}
 use Rattle.bindings.specs.declared.Cell.{Cell}
 use Rattle.bindings.specs.Trails.{Since}
 use Rattle.machine.specs.declared.state.State.{State}
 use Rattle.machine.specs.Branches.{no_step}
-use Rattle.machine.specs.States.{Good, SameBook, place_of}
+use Rattle.machine.specs.States.{SameBook, place_of}
 use Rattle.branches.specs.Moves.{off}
 use Rattle.machine.proofs.States.{true_good, newest_since, newest_rule, back_good, back_value, back_place, no_back}
 use Rattle.machine.proofs.state.State.back.Goals as goal

@@ -1,13 +1,11 @@
-use Rattle.std.proofs.Common.{◌≡◌, ℕ, ◌+◌, ◌<◌, ◌≤◌, length, Ok, Result, sym, refl, ap, ◌∙◌, subst, ap₂, arith, rules}
-use Rattle.slips.specs.declared.faults.OpeningFault.{OpeningFault}
-use Rattle.slips.specs.Opening.{Opened}
+use Rattle.std.proofs.Common.{◌≡◌, ℕ, ◌≤◌, length, Ok, sym, refl, ap, ◌∙◌, subst, arith, rules}
 use Rattle.reading.specs.Views.{QueryView, query_view}
 use Rattle.bindings.specs.Overlays.{laid}
 use Rattle.bindings.proofs.Overlays.{laid_length}
 use Rattle.machine.specs.declared.state.State.{State}
 use Rattle.machine.specs.Openings.{OpensAs}
 use Rattle.reading.proofs.Parts.{known}
-use Rattle.machine.proofs.Openings.{Asked, asked_of, opening_is, open_is}
+use Rattle.machine.proofs.Openings.{asked_of, opening_is, open_is}
 use Rattle.machine.proofs.state.State.open.Goals as goal
 
 pub gather-requires : goal.gather-requires

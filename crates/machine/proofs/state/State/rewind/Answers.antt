@@ -1,4 +1,4 @@
-use Rattle.std.proofs.Common.{◌≡◌, ◌≤◌, length, refl, arith, rules}
+use Rattle.std.proofs.Common.{◌≡◌, ◌≤◌, length, refl, rules}
 use Rattle.machine.specs.declared.state.State.{State}
 use Rattle.machine.specs.States.{SameBook}
 use Rattle.machine.proofs.States.{true_good, rewind_good, rewind_place}

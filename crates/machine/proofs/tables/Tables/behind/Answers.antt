@@ -1,7 +1,7 @@
-use Rattle.std.proofs.Common.{◌≡◌, ℕ, ◌-◌, ◌<◌, ◌≤◌, length, sym, refl, ◌∙◌, arith, rules}
+use Rattle.std.proofs.Common.{◌≡◌, ℕ, ◌-◌, ◌<◌, refl, ◌∙◌, arith, rules}
 use Rattle.bindings.proofs.Texts.{inside}
 use Rattle.branches.specs.declared.Goals.{Goals}
-use Rattle.machine.specs.Climbs.{RowOver, Climbing}
+use Rattle.machine.specs.Climbs.{RowOver}
 use Rattle.machine.proofs.Climbs.{newest_length, row_end, next_row, up_over, up_some, up_less as up_lower, up_behind}
 use Rattle.machine.proofs.tables.Tables.behind.Goals as goal
 

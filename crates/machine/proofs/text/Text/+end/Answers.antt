@@ -1,5 +1,4 @@
-use Rattle.std.proofs.Common.{◌≡◌, ℕ, ◌+◌, ◌<◌, ◌≤◌, length, sym, ◌∙◌, subst, arith, rules}
-use Rattle.terms.specs.Terms.{Term}
+use Rattle.std.proofs.Common.{◌≡◌, ℕ, sym, subst, rules}
 use Rattle.bindings.specs.Texts.{Spans}
 use Rattle.bindings.proofs.Texts.{inside, skip_atom, skip_variable, fork}
 use Rattle.machine.proofs.text.Text.+end.Goals as goal

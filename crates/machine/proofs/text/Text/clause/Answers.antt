@@ -1,8 +1,7 @@
-use Rattle.std.proofs.Common.{◌≡◌, ℕ, ◌+◌, ◌<◌, ◌≤◌, length, get_or, sym, refl, ap, ◌∙◌, subst, ap₂, arith, rules}
+use Rattle.std.proofs.Common.{◌≡◌, ℕ, ◌+◌, length, get_or, ap, ◌∙◌, subst, ap₂, arith, rules}
 use Rattle.terms.specs.declared.Form.TheVariants.{Rules}
 use Rattle.terms.specs.Bytes.{encoding}
 use Rattle.bindings.proofs.Texts.{inside}
-use Rattle.branches.specs.declared.Clause.{Clause}
 use Rattle.branches.proofs.Copies.{head_spans}
 use Rattle.machine.proofs.text.Text.clause.Goals as goal
 

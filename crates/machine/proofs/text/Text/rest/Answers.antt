@@ -1,4 +1,4 @@
-use Rattle.std.proofs.Common.{◌≡◌, ℕ, rules}
+use Rattle.std.proofs.Common.{◌≡◌, rules}
 use Rattle.bindings.proofs.Texts.{inside}
 use Rattle.machine.proofs.text.Text.rest.Goals as goal
 

@@ -1,4 +1,4 @@
-use Rattle.std.proofs.Common.{◌≡◌, ℕ, ◌+◌, ◌<◌, ◌≤◌, length, sym, ◌∙◌, arith, rules}
+use Rattle.std.proofs.Common.{sym, ◌∙◌, arith, rules}
 use Rattle.bindings.proofs.Texts.{inside, stands_atom, stands_variable}
 use Rattle.bindings.proofs.Shapes.{form_atom, form_free, form_bound}
 use Rattle.machine.proofs.view.View.shape.Goals as goal
