@@ -1,8 +1,7 @@
 -- What is written of an answer in hand. Assumes nothing.
-use Rattle.std.proofs.Common.{◌≡◌, ℕ, zero, suc, ◌≤◌, Bool, true, false, cond, leb, List, [], ◌∷◌, ◌++◌, length, drop, Some, None, Ok, Err, Result, sym, refl, ap, ◌∙◌, ap₂, arith, leb-true}
-use Rattle.slips.specs.declared.faults.WriteRefusal.{WriteRefusal}
+use Rattle.std.proofs.Common.{◌≡◌, ℕ, ◌≤◌, Bool, true, false, cond, leb, List, [], ◌∷◌, ◌++◌, length, drop, Some, None, Ok, Err, refl, ap, ◌∙◌, ap₂, arith, leb-true}
 use Rattle.slips.specs.declared.faults.WriteRefusal.TheVariants.{NoRoom}
-use Rattle.slips.specs.Runs.{Reply, wrote, written}
+use Rattle.slips.specs.Runs.{wrote, written}
 use Rattle.bindings.specs.Overlays.{laid}
 use Rattle.machine.specs.Sinks.{fitting, written as laid_if}
 

@@ -1,10 +1,10 @@
 -- Calls in slots, one after the other. Assumes nothing.
-use Rattle.std.proofs.Common.{◌≡◌, ℕ, zero, suc, ◌+◌, ◌<◌, ◌≤◌, List, [], ◌∷◌, ◌++◌, map, length, get_or, take, drop, set, sym, refl, ap, ◌∙◌, subst, ap₂, append_assoc, append-nil, arith, length-set}
+use Rattle.std.proofs.Common.{◌≡◌, ℕ, zero, suc, ◌+◌, ◌<◌, ◌≤◌, List, [], ◌∷◌, ◌++◌, map, length, get_or, take, drop, set, sym, refl, ap, ◌∙◌, ap₂, append_assoc, append-nil, arith, length-set}
 use mathlib.Core.Option.{Option, some}
 use Rattle.std.proofs.lemmas.List.{take_all, drop_all, drop-set-lt, drop_more, take_more_set}
 use Rattle.terms.specs.Terms.{Rule, Query}
 use Rattle.resolution.specs.Search.{Search as DefinedSearch}
-use Rattle.slips.specs.Runs.{Request as Asked, Reply as Returned, reply, after, replies}
+use Rattle.slips.specs.Runs.{Reply as Returned, reply, after, replies}
 use Rattle.engine.specs.declared.slots.Request.{Request}
 use Rattle.engine.specs.declared.slots.Slot.{Slot}
 use Rattle.engine.specs.Slots.{asked, returned, keeps}

@@ -1,16 +1,12 @@
 -- A call of next on a search: from turn to turn, and at its end. Assumes nothing.
-use Rattle.std.proofs.Common.{◌≡◌, ℕ, suc, ◌+◌, ◌-◌, ◌*◌, ◌<◌, ◌≤◌, Bool, true, false, List, length, Ok, Result, sym, refl, ap, ◌∙◌, subst, ap₂, arith}
+use Rattle.std.proofs.Common.{◌≡◌, ℕ, ◌+◌, ◌-◌, ◌≤◌, false, List, Ok, sym, refl, ap, ◌∙◌, subst, ap₂}
 use Rattle.terms.specs.Terms.{Rule}
-use Rattle.resolution.specs.declared.Stop.{Stop as Why}
 use Rattle.resolution.specs.declared.Word.{Word}
-use Rattle.resolution.specs.declared.Word.TheVariants.{Answer, Spent, Stopped, NoMore}
-use Rattle.resolution.specs.declared.Outcome.{Outcome}
-use Rattle.resolution.specs.declared.Refusal.{Refusal}
+use Rattle.resolution.specs.declared.Word.TheVariants.{NoMore}
 use Rattle.resolution.specs.Limits.{allowance_limit}
 use Rattle.resolution.specs.Lines.{Place, End, onward, lines}
-use Rattle.resolution.specs.Search.{Condition as DefinedCondition, running, standing, Search as DefinedSearch, held, condition_after, answers_after, Called, settled, next}
-use Rattle.branches.specs.declared.Due.TheVariants.{Nothing, NoRule, Stop, Rule as ARule}
-use Rattle.branches.specs.Moves.{due_at, off, attempted}
+use Rattle.resolution.specs.Search.{Condition as DefinedCondition, held, condition_after, answers_after, settled, next}
+use Rattle.branches.specs.Moves.{off}
 use Rattle.machine.specs.declared.machine.Machine.{Machine}
 use Rattle.machine.specs.Machines.{rules, query, place}
 use Rattle.engine.specs.declared.search.Condition.{Condition}
@@ -18,7 +14,7 @@ use Rattle.engine.specs.declared.search.Condition.TheVariants.{Running, Standing
 use Rattle.engine.specs.declared.search.Search.{Search}
 use Rattle.engine.specs.Models.{condition_of, rules_of, query_of, model}
 use Rattle.engine.specs.Turns.{comes_to, Still}
-use Rattle.engine.proofs.Turns.{off_no, line_answer, line_back, line_none, stop_spent, rule_spent, line_stopped, line_tried, ended_result, ended_search}
+use Rattle.engine.proofs.Turns.{off_no, ended_result, ended_search}
 
 -- the search s₀ came to s in a call with the allowance a, after n tries
 abbrev pub OnWay : Search → Search → ℕ → ℕ → Type 0

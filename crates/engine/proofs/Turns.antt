@@ -1,5 +1,5 @@
 -- How a call of next goes on, and how it ends. Assumes nothing.
-use Rattle.std.proofs.Common.{◌≡◌, ℕ, zero, suc, ◌+◌, ◌-◌, ◌*◌, ◌<◌, ◌≤◌, Bool, true, false, cond, leb, List, [], ◌∷◌, length, Ok, Err, Result, sym, refl, ap, ◌∙◌, subst, ap₂, arith, le-leb}
+use Rattle.std.proofs.Common.{◌≡◌, ℕ, zero, suc, ◌+◌, ◌-◌, ◌<◌, ◌≤◌, Bool, true, false, cond, List, [], ◌∷◌, length, Ok, sym, refl, ap, ◌∙◌, arith, le-leb}
 use borrow.Author.Tests.{lt-leb}
 use mathlib.Core.Option.{Option, none, some}
 use Rattle.terms.specs.Terms.{Term, Rule}
@@ -9,12 +9,10 @@ use Rattle.unification.specs.Unification.{unify}
 use Rattle.resolution.specs.declared.Stop.{Stop as Why}
 use Rattle.resolution.specs.declared.Word.{Word}
 use Rattle.resolution.specs.declared.Word.TheVariants.{Answer, Spent, Stopped, NoMore}
-use Rattle.resolution.specs.declared.Outcome.{Outcome}
-use Rattle.resolution.specs.declared.Refusal.{Refusal}
 use Rattle.resolution.specs.Rules.{rule}
 use Rattle.resolution.specs.Limits.{allowance_limit}
-use Rattle.resolution.specs.Lines.{Step as Taken, Place, Turn, ends, goes_on, back, landed, tried, End, onward, lines, line}
-use Rattle.resolution.specs.Search.{Condition, running, standing, ended, stopped, Search, held, condition_after, answers_after, Called, settled, repeated, refused, continued, next}
+use Rattle.resolution.specs.Lines.{Step as Taken, Place, ends, goes_on, back, landed, onward, lines}
+use Rattle.resolution.specs.Search.{Condition, running, standing, ended, stopped, Search, held, condition_after, answers_after, Called, settled, refused, continued, next}
 use Rattle.resolution.proofs.Lines.{one_by_one}
 use Rattle.branches.specs.declared.Due.{Due}
 use Rattle.branches.specs.declared.Due.TheVariants.{Nothing, NoRule, Stop, Rule as ARule}

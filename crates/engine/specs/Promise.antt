@@ -1,7 +1,6 @@
 -- The promise over a whole run: calls on a search, and a slip that is checked. Assumes nothing.
 use Rattle.std.specs.Prelude.{◌≡◌, ℕ, List, [], ◌∷◌, ◌++◌, map, take, Ok, Err, Result}
-use Rattle.std.proofs.Math.Option.{Option, some}
-use Rattle.terms.specs.Terms.{Rule, Query}
+use Rattle.std.proofs.Math.Option.{some}
 use Rattle.unification.specs.Ground.{Replacement}
 use Rattle.resolution.specs.declared.Word.TheVariants.{Answer, NoMore}
 use Rattle.resolution.specs.Follows.{QueryFollows}

@@ -1,5 +1,5 @@
 -- What slots ask of a search, and what they then hold. Assumes nothing.
-use Rattle.std.specs.Prelude.{ℕ, List, [], ◌∷◌, vec_items}
+use Rattle.std.specs.Prelude.{ℕ, List, [], vec_items}
 use Rattle.std.proofs.Math.Option.{Option, none, some}
 use Rattle.slips.specs.Runs.{Request as Asked, to_next, to_rewind, to_tally, to_hold, to_answer, to_slip, Reply as Returned, told, rewound, tallied, held, wrote}
 use Rattle.engine.specs.declared.slots.Request.{Request}

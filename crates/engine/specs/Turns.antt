@@ -2,7 +2,7 @@
 use Rattle.std.specs.Prelude.{◌≡◌, ℕ, List}
 use Rattle.terms.specs.Terms.{Rule}
 use Rattle.resolution.specs.declared.Word.TheVariants.{Stopped, NoMore}
-use Rattle.resolution.specs.Lines.{Place, back, End, onward, lines}
+use Rattle.resolution.specs.Lines.{Place, back, onward, lines}
 use Rattle.resolution.specs.Search.{Condition, running, standing, ended, stopped, Search, Called, settled, repeated}
 
 -- a call with the allowance a that began at s, with so many tries left at the place p, in this condition

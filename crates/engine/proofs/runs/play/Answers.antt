@@ -1,8 +1,7 @@
-use Rattle.std.proofs.Common.{◌≡◌, ◌<◌, List, length, slice_index_or, ap, ap₂, ◌∙◌, arith}
-use Rattle.std.proofs.Math.Option.{Option, some}
+use Rattle.std.proofs.Common.{List, slice_index_or, ap, ap₂, ◌∙◌, arith}
+use Rattle.std.proofs.Math.Option.{some}
 use Rattle.terms.specs.Terms.{Rule, Query}
-use Rattle.resolution.specs.Search.{Search as DefinedSearch}
-use Rattle.slips.specs.Runs.{Reply, reply, after}
+use Rattle.slips.specs.Runs.{reply, after}
 use Rattle.engine.specs.declared.slots.Slot.{Slot}
 use Rattle.engine.specs.Models.{rules_of, query_of, model}
 use Rattle.engine.specs.Slots.{asked}

@@ -1,15 +1,12 @@
-use Rattle.std.proofs.Common.{◌≡◌, ℕ, suc, ◌+◌, ◌-◌, ◌<◌, ◌≤◌, Bool, true, false, List, sym, refl, ap, ◌∙◌, subst, ap₂, arith, rules}
+use Rattle.std.proofs.Common.{◌≡◌, ◌+◌, ◌-◌, ◌<◌, List, sym, refl, ap, ◌∙◌, arith}
 use Rattle.terms.specs.Terms.{Rule}
 use Rattle.resolution.specs.declared.Word.{Word}
 use Rattle.resolution.specs.declared.Word.TheVariants.{Answer, Spent, Stopped, NoMore}
-use Rattle.resolution.specs.Lines.{Place, End, onward, lines}
-use Rattle.resolution.specs.Search.{settled}
-use Rattle.branches.specs.Moves.{due_at, off, attempted}
+use Rattle.resolution.specs.Lines.{lines}
+use Rattle.branches.specs.Moves.{due_at, attempted}
 use Rattle.machine.specs.Machines.{place}
-use Rattle.engine.specs.declared.search.Condition.{Condition}
 use Rattle.engine.specs.declared.search.Search.{Search}
-use Rattle.engine.specs.Models.{condition_of, rules_of, query_of, model}
-use Rattle.engine.specs.Turns.{comes_to}
+use Rattle.engine.specs.Models.{rules_of, query_of}
 use Rattle.engine.proofs.Turns.{off_no, line_answer, line_back, line_none, stop_spent, rule_spent, line_stopped, line_tried}
 use Rattle.engine.proofs.Nexts.{goes_on_with, ends_with, due_here, Done, done_at, standing_none}
 use Rattle.engine.proofs.search.Search.next.Goals as goal
