@@ -4,8 +4,8 @@
 mod comparison;
 mod cursors;
 mod parts;
+mod places;
 mod progress;
-mod terms;
 mod texts;
 
 ghost use Rattle.std.specs.Prelude.{◌≡◌};

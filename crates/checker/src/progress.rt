@@ -10,7 +10,7 @@ ghost use Rattle.checker.specs.Progress.{tables, OnlyDepth};
 
 use crate::comparison::agree;
 use crate::parts::{begin, behind_operands, close, open};
-use crate::terms::read_terms;
+use crate::places::read_terms;
 use crate::texts::Texts;
 use comparing::{Cursor, Source};
 use slips::faults::{CheckFault, SlipFault};

@@ -12,8 +12,8 @@ use Rattle.reading.proofs.Passing.{Sofar, begins, then_due}
 use Rattle.slips.specs.Checker.{unknowns}
 use Rattle.comparing.specs.Streams.{due_after}
 use Rattle.comparing.proofs.Terms.{ends_at, fails_with, one_command, missing, unfit_here}
-use Rattle.checker.proofs.terms.skip_term.Goals as goal
-use Rattle.checker.proofs.terms.skip_term.Goals.{In-Some, After-from_place-reader}
+use Rattle.checker.proofs.places.skip_term.Goals as goal
+use Rattle.checker.proofs.places.skip_term.Goals.{In-Some, After-from_place-reader}
 
 pub loop-due-init : goal.loop-due-init
 loop-due-init c = begins Slips unknowns 1 c.from_place-reader.result.place c.from_place-reader.result.bytes.now

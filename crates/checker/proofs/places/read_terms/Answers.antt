@@ -6,7 +6,7 @@ use Rattle.comparing.specs.Places.{where_to}
 use Rattle.std.proofs.lemmas.Result.{err_from_is_err_and}
 use Rattle.reading.proofs.Parts.{known}
 use Rattle.comparing.proofs.Terms.{none_read, one_more_read, fault_read, all_read, all_listed}
-use Rattle.checker.proofs.terms.read_terms.Goals as goal
+use Rattle.checker.proofs.places.read_terms.Goals as goal
 
 pub loop-k-init : goal.loop-k-init
 loop-k-init c = none_read c.args.slip.now c.args.table.now c.args.first c.args.place
