@@ -2,6 +2,7 @@ pub mod Turns
 pub mod Tries
 pub mod Sinks
 pub mod Numberings
+pub mod Common
 mod Climbs
 mod States
 mod Attempts

@@ -9,4 +9,5 @@ pub mod Openings
 pub mod Machines
 pub mod Sinks
 pub mod Numberings
+pub mod Facts
 pub mod Writings

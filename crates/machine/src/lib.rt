@@ -6,6 +6,7 @@ mod attempt;
 mod branch;
 mod cells;
 mod clauses;
+pub mod facts;
 mod guard;
 mod instance;
 mod lines;
