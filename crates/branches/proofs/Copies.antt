@@ -20,11 +20,6 @@ use Rattle.branches.specs.Copies.{flat, clause_of, clauses_from}
 use Rattle.branches.proofs.Rows.{spans_after}
 use Rattle.branches.proofs.Tests.{stated_true}
 
--- One after the other.
-pub holds_both : (text : List ℕ) (p q : ℕ) (cs bs : List ℕ) → q ≡ p + length cs → Holds text p cs → Holds text q bs → Holds text p (cs ++ bs)
-holds_both text p q [] bs e h k = subst (λ (x : ℕ). Holds text x bs) (e ∙ omega arith) k
-holds_both text p q (c ∷ cs) bs e h k = (h.0, h.1, holds_both text (p + 1) q cs bs (omega (arith, e)) h.2 k)
-
 -- Terms that are written one after the other stand in a row.
 module _ (text : List ℕ) (v : ℕ) where
   next_at : (p : ℕ) (t : Term) → Holds text p (encoding Rules t) → after text p ≡ p + length (encoding Rules t)

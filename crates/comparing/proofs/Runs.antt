@@ -138,16 +138,6 @@ query_read bs v a e = by (query bs) refl e
     by (Ok q) h e = let same : v ≡ query_shown q = cc in record { query_is = q; read = h; fit = (queries_inverse.only_encodings bs q a h).0; view = same }
     by (Err x) h e = let z : ◌≡◌ {A = ℕ} 0 1 = cc in absurd (omega arith)
 
-pub query_fails : (rs : List Rule) (bs slip : List ℕ) (x : SingleFault) → Err x ≡ seen query_shown (query bs) → Err (InQuery x) ≡ check rs bs slip
-query_fails rs bs slip x e = by (query bs) refl e
-  where
-    by : (r : Result Query SingleFault) → query bs ≡ r → Err x ≡ seen query_shown r → Err (InQuery x) ≡ check rs bs slip
-    by (Ok q) h e = let z : ◌≡◌ {A = ℕ} 0 1 = cc in absurd (omega arith)
-    by (Err y) h e =
-        let same : x ≡ y = cc in
-        ap (λ z. Err (InQuery z)) same
-        ∙ sym (ap (λ r. go r InQuery (λ q. ask (opens q.variables slip) (InSlip Opening 0) (go (terms_at q.variables 2 slip) (λ e. InSlip (Reading e) 0) (λ t. steps rs slip step_limit 0 t.1 (map (present t.0) q.goals))))) h)
-
 -- ── before the first step ──
 
 module _ (rs : List Rule) (slip : List ℕ) (q : Query) where

@@ -1,24 +1,19 @@
 -- How a call of next goes on, and how it ends. Assumes nothing.
-use Rattle.std.proofs.Common.{◌≡◌, ℕ, zero, suc, ◌+◌, ◌-◌, ◌<◌, ◌≤◌, Bool, true, false, cond, List, [], ◌∷◌, length, Ok, sym, refl, ap, ◌∙◌, arith, le-leb}
+use Rattle.std.proofs.Common.{◌≡◌, ℕ, zero, suc, ◌+◌, ◌-◌, ◌<◌, ◌≤◌, Bool, true, false, cond, List, [], ◌∷◌, Ok, sym, refl, ap, ◌∙◌, arith, le-leb}
 use borrow.Author.Tests.{lt-leb}
-use mathlib.Core.Option.{Option, none, some}
-use Rattle.terms.specs.Terms.{Term, Rule}
-use Rattle.unification.specs.Substitutions.{Substitution}
-use Rattle.unification.specs.Variables.{shifted}
-use Rattle.unification.specs.Unification.{unify}
+use Rattle.terms.specs.Terms.{Rule}
 use Rattle.resolution.specs.declared.Stop.{Stop as Why}
 use Rattle.resolution.specs.declared.Word.{Word}
 use Rattle.resolution.specs.declared.Word.TheVariants.{Answer, Spent, Stopped, NoMore}
-use Rattle.resolution.specs.Rules.{rule}
 use Rattle.resolution.specs.Limits.{allowance_limit}
-use Rattle.resolution.specs.Lines.{Step as Taken, Place, ends, goes_on, back, landed, onward, lines}
+use Rattle.resolution.specs.Lines.{Step as Taken, Place, ends, goes_on, back, onward, lines}
 use Rattle.resolution.specs.Search.{Condition, running, standing, ended, stopped, Search, held, condition_after, answers_after, Called, settled, refused, continued, next}
 use Rattle.resolution.proofs.Lines.{one_by_one}
 use Rattle.branches.specs.declared.Due.{Due}
 use Rattle.branches.specs.declared.Due.TheVariants.{Nothing, NoRule, Stop, Rule as ARule}
-use Rattle.branches.specs.Moves.{due_at, off, attempted_if, attempted, turn}
+use Rattle.branches.specs.Moves.{due_at, off, attempted, turn}
 use Rattle.branches.proofs.Lines.{lines_by_due}
-use Rattle.engine.specs.Turns.{comes_to, Still}
+use Rattle.engine.specs.Turns.{comes_to}
 
 -- ── taking off a step ──
 
@@ -29,10 +24,6 @@ off_yes left (f ∷ fs) p e = refl
 pub off_no : (left : ℕ) (fs : List Taken) (p : Place) → (off fs p).0 ≡ false → (back left fs ≡ ends NoMore) × ((off fs p).1 ≡ p)
 off_no left [] p e = (refl, refl)
 off_no left (f ∷ fs) p e = let z : ◌≡◌ {A = ℕ} 0 1 = cc in absurd (omega arith)
-
-pub off_less : (fs : List Taken) (p : Place) → p.branch ≡ fs → (off fs p).0 ≡ true → length (off fs p).1.branch < length p.branch
-off_less [] p q e = let z : ◌≡◌ {A = ℕ} 0 1 = cc in absurd (omega arith)
-off_less (f ∷ fs) p q e = omega (arith, ap length q)
 
 -- ── a line ──
 
@@ -64,21 +55,6 @@ line_stopped rs (suc n) p why e l = by_due rs (suc n) p (Stop why) (sym e)
 pub line_tried : (rs : List Rule) (left rest : ℕ) (p : Place) → ARule ≡ due_at rs p → left ≡ suc rest → lines rs left p ≡ lines rs rest (attempted rs p)
 line_tried rs left rest p e l = ap (λ (n : ℕ). lines rs n p) l ∙ by_due rs (suc rest) p ARule (sym e)
 
--- A try adds at most a step.
-pub attempted_length : (rs : List Rule) (p : Place) → length (attempted rs p).branch ≤ suc (length p.branch)
-attempted_length rs p = by (due_at rs p) p.goals
-  where
-    land : (g : Term) (rest : List Term) (o : Option Substitution) → length (landed p (rule rs p.due) g rest o).branch ≤ suc (length p.branch)
-    land g rest none = omega arith
-    land g rest (some σ) = omega arith
-
-    by : (d : Due) (gs : List Term) → length (attempted_if rs p d gs).branch ≤ suc (length p.branch)
-    by Nothing gs = omega arith
-    by NoRule gs = omega arith
-    by (Stop why) gs = omega arith
-    by ARule [] = omega arith
-    by ARule (g ∷ rest) = land g rest (unify (shifted (length p.cells) (rule rs p.due).head) g)
-
 -- ── a call ──
 
 pub begins : (rs : List Rule) (a : ℕ) (s : Search) (c : Condition) → continued rs a s c ≡ comes_to rs a s a s.place c
@@ -86,12 +62,6 @@ begins rs a s running = refl
 begins rs a s standing = refl
 begins rs a s ended = refl
 begins rs a s (stopped why) = refl
-
-pub still_first : (c : Condition) (s : Search) → Still c s s
-still_first running s = tt
-still_first standing s = tt
-still_first ended s = refl
-still_first (stopped why) s = refl
 
 module _ (rs : List Rule) (a : ℕ) (s : Search) where
   pub next_refused : allowance_limit < a → next rs a s ≡ refused s

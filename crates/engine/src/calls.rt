@@ -16,6 +16,13 @@ use stores::stores::Store;
 // the most tries that one call may be allowed
 const MOST_TRIES: u32 = 1_000_000;
 
+// What a call says that makes no try.
+fn at_once(word: Word) -> Outcome
+    ensures { result ≡ record { word = word; tries = 0 } }
+{
+    Outcome { word, tries: 0 }
+}
+
 impl Condition {
     // The condition that a word leaves.
     fn after(word: Word) -> Condition
@@ -72,14 +79,8 @@ impl Search {
         let mut tries = 0;
         let word = 'lines: loop {
             match (self.condition, self.machine.due()) {
-                (Condition::Ended, _) => return Ok(Outcome {
-                    word: Word::NoMore,
-                    tries: 0,
-                }),
-                (Condition::Stopped(why), _) => return Ok(Outcome {
-                    word: Word::Stopped(why),
-                    tries: 0,
-                }),
+                (Condition::Ended, _) => return Ok(at_once(Word::NoMore)),
+                (Condition::Stopped(why), _) => return Ok(at_once(Word::Stopped(why))),
                 (Condition::Standing, _) => {
                     if !self.machine.back() {
                         break 'lines Word::NoMore;

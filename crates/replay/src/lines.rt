@@ -39,7 +39,10 @@ fn next_line(heap: Global, returned: Result<Outcome, Refusal>) -> Result<String,
             let tries = outcome.tries;
             format!(in heap; "next,{word},{tries}")
         }
-        Err(Refusal::Allowance) => String::from_str(heap, "next,refused,15"),
+        Err(refusal) => {
+            let number = refusal.number();
+            format!(in heap; "next,refused,{number}")
+        }
     }
 }
 

@@ -2,6 +2,8 @@
 // shared by them and by the code that meets them, and each function carries a theorem in its contract.
 #![tactic(auto)]
 
+ghost use Rattle.std.specs.Prelude.{◌≡◌};
+ghost use Rattle.resolution.specs.Limits.{refusal_number};
 ghost use Rattle.resolution.specs.Examples.{Worked};
 ghost use Rattle.resolution.specs.Laws.{OneByOne, Refuses, KeepsToAllowance, Splits, Sound, NoneMeansNone, InOrder, StepsFit, WithinLimits, EndedBare, Tallies};
 
@@ -34,11 +36,21 @@ pub struct Outcome {
     pub tries: u32,
 }
 
-// Why a call is refused; specs/ has its number.
+// Why a call is refused.
 #[derive(Clone, Copy)]
 pub enum Refusal {
     // the allowance is above its limit
     Allowance,
+}
+
+impl Refusal {
+    pub fn number(&self) -> u8
+        ensures { result ≡ refusal_number self.now }
+    {
+        match *self {
+            Refusal::Allowance => 15,
+        }
+    }
 }
 
 // Tries and answers since opening or the last rewind, and the steps and cells in use.
