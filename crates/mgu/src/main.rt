@@ -4,7 +4,7 @@
 
 mod notation;
 
-use search::facts::{Unified, unify_facts};
+use machine::facts::{Unified, unify_facts};
 use std::alloc::Global;
 use std::fs;
 

@@ -1,4 +1,0 @@
-pub mod Turns
-pub mod Tries
-pub mod Sinks
-pub mod Common
