@@ -1,5 +1,6 @@
 -- How a list of rules is written as a book. Assumes nothing.
 use Rattle.std.specs.Prelude.{ℕ, ◌+◌, List, [], ◌∷◌, ◌++◌, length, drop, Ok, Err, Result, nat_le}
+use Rattle.std.specs.Fmt.{decimal}
 use Rattle.grammar.specs.Asking.{ask}
 use Rattle.grammar.specs.Items.{world_byte, most_rules, most_bytes}
 use Rattle.grammar.specs.Texts.{total}
@@ -47,3 +48,7 @@ abbrev pub write_number : WriteFault → ℕ
 write_number Rules = 13
 write_number Bytes = 14
 write_number Room = 17
+
+-- what is printed of a fault
+abbrev pub write_text : WriteFault → List ℕ
+write_text e = decimal (write_number e)

@@ -1,6 +1,9 @@
 // Why rules are not written as a book.
-ghost use Rattle.std.specs.Prelude.{◌≡◌};
-ghost use Rattle.books.specs.Writing.{write_number};
+ghost use Rattle.std.specs.Prelude.{◌≡◌, Some};
+ghost use Rattle.books.specs.Writing.{write_number, write_text};
+
+use std::error::Error;
+use std::fmt;
 
 #[derive(Clone, Copy, PartialEq, Eq, Debug)]
 pub enum WriteFault {
@@ -23,3 +26,13 @@ impl WriteFault {
         }
     }
 }
+
+impl fmt::Display for WriteFault {
+    ghost output = { λ e. Some (write_text e) };
+
+    fn fmt<W: fmt::Write>(&self, f: &mut fmt::Formatter<W>) -> fmt::Result {
+        write!(f, "{}", self.number())
+    }
+}
+
+impl Error for WriteFault {}

@@ -1,5 +1,6 @@
--- The number, place and layer of each fault of reading. Assumes nothing.
-use Rattle.std.specs.Prelude.{ℕ, Some, None, Option}
+-- The number, place and layer of each fault of reading, and what is printed of it. Assumes nothing.
+use Rattle.std.specs.Prelude.{ℕ, List, ◌++◌, codes, Some, None, Option}
+use Rattle.std.specs.Fmt.{decimal}
 use Rattle.grammar.specs.declared.faults.CommandFault.{CommandFault}
 use Rattle.grammar.specs.declared.faults.CommandFault.TheVariants.{Operands, NoTerm}
 use Rattle.grammar.specs.declared.faults.RuleFault.{RuleFault}
@@ -90,3 +91,12 @@ book_rule (World e) = None
 book_rule TooLong = None
 book_rule (NoItem p) = None
 book_rule (TooManyRules p n) = Some n
+
+-- a number, or a dash where there is none
+abbrev pub or_dash : Option ℕ → List ℕ
+or_dash None = codes "-"
+or_dash (Some n) = decimal n
+
+-- what is printed of a fault: its number, its place and its layer
+abbrev pub fault_text : ℕ → ℕ → ℕ → List ℕ
+fault_text n p l = decimal n ++ codes "," ++ decimal p ++ codes "," ++ decimal l

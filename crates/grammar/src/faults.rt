@@ -1,9 +1,13 @@
 // The faults that reading finds, in three layers. Each layer wraps the faults of the one below and adds its own.
-ghost use Rattle.std.specs.Prelude.{◌≡◌};
+ghost use Rattle.std.specs.Prelude.{◌≡◌, Some};
+ghost use Rattle.std.specs.Fmt.{DisplaysOnOk};
 ghost use Rattle.grammar.specs.declared.faults.RuleFault.TheVariants.{Command};
 ghost use Rattle.grammar.specs.declared.faults.SingleFault.TheVariants.{Inside};
 ghost use Rattle.grammar.specs.declared.faults.BookFault.TheVariants.{World};
-ghost use Rattle.grammar.specs.Refusals.{command_number, command_place, command_layer, rule_number, rule_place, rule_layer, single_number, single_place, single_layer, book_number, book_place, book_layer, book_rule};
+ghost use Rattle.grammar.specs.Refusals.{command_number, command_place, command_layer, rule_number, rule_place, rule_layer, single_number, single_place, single_layer, book_number, book_place, book_layer, book_rule, fault_text};
+
+use std::error::Error;
+use std::fmt;
 
 // The layers: commands, rules and queries, the whole.
 const COMMANDS: u8 = 1;
@@ -97,6 +101,20 @@ impl From<CommandFault> for BookFault {
     }
 }
 
+// Writes a fault's number, place and layer.
+fn write_fault<W: fmt::Write>(
+    f: &mut fmt::Formatter<W>,
+    number: u8,
+    place: usize,
+    layer: u8,
+) -> fmt::Result
+    ensures { DisplaysOnOk W.write_str_gives f.old result (Some (fault_text number place layer)) f.new }
+{
+    write!(f, "{number},{place},{layer}")
+}
+
+// Each fault tells its number, its place and its layer by a match of its own: under a common trait the matches would be the
+// same. Display is given to each fault alone, since it cannot be given to every type that has a trait of ours.
 impl CommandFault {
     pub fn number(&self) -> u8
         ensures { result ≡ command_number self.now }
@@ -123,6 +141,16 @@ impl CommandFault {
         }
     }
 }
+
+impl fmt::Display for CommandFault {
+    ghost output = { λ e. Some (fault_text (command_number e) (command_place e) (command_layer e)) };
+
+    fn fmt<W: fmt::Write>(&self, f: &mut fmt::Formatter<W>) -> fmt::Result {
+        write_fault(f, self.number(), self.place(), self.layer())
+    }
+}
+
+impl Error for CommandFault {}
 
 impl RuleFault {
     pub fn number(&self) -> u8
@@ -168,6 +196,16 @@ impl RuleFault {
     }
 }
 
+impl fmt::Display for RuleFault {
+    ghost output = { λ e. Some (fault_text (rule_number e) (rule_place e) (rule_layer e)) };
+
+    fn fmt<W: fmt::Write>(&self, f: &mut fmt::Formatter<W>) -> fmt::Result {
+        write_fault(f, self.number(), self.place(), self.layer())
+    }
+}
+
+impl Error for RuleFault {}
+
 impl SingleFault {
     pub fn number(&self) -> u8
         ensures { result ≡ single_number self.now }
@@ -197,6 +235,16 @@ impl SingleFault {
         }
     }
 }
+
+impl fmt::Display for SingleFault {
+    ghost output = { λ e. Some (fault_text (single_number e) (single_place e) (single_layer e)) };
+
+    fn fmt<W: fmt::Write>(&self, f: &mut fmt::Formatter<W>) -> fmt::Result {
+        write_fault(f, self.number(), self.place(), self.layer())
+    }
+}
+
+impl Error for SingleFault {}
 
 impl BookFault {
     pub fn number(&self) -> u8
@@ -242,3 +290,13 @@ impl BookFault {
         }
     }
 }
+
+impl fmt::Display for BookFault {
+    ghost output = { λ e. Some (fault_text (book_number e) (book_place e) (book_layer e)) };
+
+    fn fmt<W: fmt::Write>(&self, f: &mut fmt::Formatter<W>) -> fmt::Result {
+        write_fault(f, self.number(), self.place(), self.layer())
+    }
+}
+
+impl Error for BookFault {}

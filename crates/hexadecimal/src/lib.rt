@@ -1,56 +1,23 @@
 // Bytes as hexadecimal text, two digits a byte.
 #![tactic(auto)]
 
-ghost use Rattle.std.specs.Prelude.{◌≡◌, ◌<◌, IfOk, vec_items, string_bytes};
+ghost use Rattle.std.specs.Prelude.{◌≡◌, IfOk, vec_items, string_bytes};
 ghost use Rattle.std.specs.Option.{option_map};
-ghost use Rattle.hexadecimal.specs.Digits.{digit_value, digit_letter, decoded, encoded};
+ghost use Rattle.hexadecimal.specs.Digits.{decoded, encoded};
 
+use hex::FromHexError;
 use std::alloc::{AllocError, Global};
-
-// The value of a digit, in capitals or not.
-fn value(letter: u8) -> Option<u8>
-    ensures { result ≡ digit_value letter }
-{
-    if letter >= 48 && letter < 58 {
-        Some(letter - 48)
-    } else if letter >= 65 && letter < 71 {
-        Some(letter - 55)
-    } else if letter >= 97 && letter < 103 {
-        Some(letter - 87)
-    } else {
-        None
-    }
-}
-
-// The capital digit of a value below 16.
-fn letter(value: u8) -> u8
-    requires { value < 16 }
-    ensures value { result ≡ digit_letter value }
-    ensures ascii { result < 128 }
-{
-    if value < 10 { value + 48 } else { value + 55 }
-}
 
 // The bytes that the digits of `text` spell; nothing where it has another character or an odd number of digits.
 pub fn decode(heap: Global, text: &[u8]) -> Result<Option<Vec<u8>>, AllocError>
     ensures { IfOk result (λ o. option_map vec_items o ≡ decoded text.now) }
 {
-    let mut bytes = Vec::new(heap);
-    let mut rest = text;
-    while let [high, low, more @ ..] = rest {
-        let Some(high) = value(*high) else {
-            return Ok(None);
-        };
-        let Some(low) = value(*low) else {
-            return Ok(None);
-        };
-        bytes.push(high * 16 + low)?;
-        rest = more;
-    }
-    if rest.is_empty() {
-        Ok(Some(bytes))
-    } else {
-        Ok(None)
+    match hex::decode(heap, text) {
+        Ok(bytes) => Ok(Some(bytes)),
+        Err(fault) => match fault {
+            FromHexError::OutOfMemory => Err(AllocError),
+            _ => Ok(None),
+        },
     }
 }
 
@@ -58,12 +25,5 @@ pub fn decode(heap: Global, text: &[u8]) -> Result<Option<Vec<u8>>, AllocError>
 pub fn encode(heap: Global, bytes: &[u8]) -> Result<String, AllocError>
     ensures { IfOk result (λ s. string_bytes s ≡ encoded bytes.now) }
 {
-    let mut text = String::new(heap);
-    for byte in bytes {
-        let high = letter(*byte / 16);
-        let low = letter(*byte % 16);
-        text.push(char::from(high))?;
-        text.push(char::from(low))?;
-    }
-    Ok(text)
+    hex::encode_upper(heap, bytes)
 }

@@ -136,11 +136,8 @@ over_end : (f : Form) (p : ℕ) (bs : List ℕ) (x : Unit {0}) → Ok x ≡ over
 over_end f p [] x e = refl
 over_end f p (b ∷ bs) x e = let z : ◌≡◌ {A = ℕ} 0 1 = cc in absurd (omega arith)
 
--- a frame that a reader has at its place, and what comes of its parts; r is what the code returns
-module _ (v m n p : ℕ) (frame : List ℕ) (s : ℕ) (bs : List ℕ) (at_place : s ≡ p) (at_frame : bs ≡ frame) where
-  begins : commands Rules p frame ≡ commands Rules s bs
-  begins = ap₂ (commands Rules) (sym at_place) (sym at_frame)
-
+-- a frame at p, and what comes of its parts; r is what the code returns
+module _ (v m n p : ℕ) (frame : List ℕ) where
   fails : {T : Type 0} (f : T → List ℕ × List ℕ) (r : Result T RuleFault) (x e : RuleFault) → r ≡ Err x → x ≡ e
       → used_up (terms v (m + n) (commands Rules p frame)) ≡ Err e → seen f r ≡ parts_read v m n p frame
   fails f r x e i j h =
@@ -148,16 +145,13 @@ module _ (v m n p : ℕ) (frame : List ℕ) (s : ℕ) (bs : List ℕ) (at_place 
       ∙ ap (λ s. go s (λ e. e) (parts_of m)) (sym h)
 
   pub head_refused : {T : Type 0} (f : T → List ℕ × List ℕ) (r : Result T RuleFault) (x e : RuleFault) → r ≡ Err x → x ≡ e
-      → left (terms v m (commands Rules s bs)) ≡ Err e → seen f r ≡ parts_read v m n p frame
-  head_refused f r x e i j h = fails f r x e i j (head_fails v m n p frame e (ap (λ c. left (terms v m c)) begins ∙ h))
+      → left (terms v m (commands Rules p frame)) ≡ Err e → seen f r ≡ parts_read v m n p frame
+  head_refused f r x e i j h = fails f r x e i j (head_fails v m n p frame e h)
 
-  module _ (q : ℕ) (ds : List ℕ) (first : left (terms v m (commands Rules s bs)) ≡ Ok (commands Rules q ds)) where
-    head_left : left (terms v m (commands Rules p frame)) ≡ Ok (commands Rules q ds)
-    head_left = ap (λ c. left (terms v m c)) begins ∙ first
-
+  module _ (q : ℕ) (ds : List ℕ) (first : left (terms v m (commands Rules p frame)) ≡ Ok (commands Rules q ds)) where
     pub goals_refused : {T : Type 0} (f : T → List ℕ × List ℕ) (r : Result T RuleFault) (x e : RuleFault) → r ≡ Err x → x ≡ e
         → left (terms v n (commands Rules q ds)) ≡ Err e → seen f r ≡ parts_read v m n p frame
-    goals_refused f r x e i j h = fails f r x e i j (goals_fail v m n p frame (commands Rules q ds) head_left e h)
+    goals_refused f r x e i j h = fails f r x e i j (goals_fail v m n p frame (commands Rules q ds) first e h)
 
     module _ (t : ℕ) (es : List ℕ) (second : left (terms v n (commands Rules q ds)) ≡ Ok (commands Rules t es)) where
       pub end_refused : {T : Type 0} (f : T → List ℕ × List ℕ) (r : Result T RuleFault) (x e : RuleFault) → r ≡ Err x → x ≡ e
@@ -168,12 +162,11 @@ module _ (v m n p : ℕ) (frame : List ℕ) (s : ℕ) (bs : List ℕ) (at_place 
           by [] k h = let z : ◌≡◌ {A = ℕ} 0 1 = cc in absurd (omega arith)
           by (b ∷ cs) k h =
               let found : e ≡ LengthLeft t = cc in
-              fails f r x e i j (end_fails v m n p frame (commands Rules q ds) head_left t b cs k ∙ ap Err (sym found))
+              fails f r x e i j (end_fails v m n p frame (commands Rules q ds) first t b cs k ∙ ap Err (sym found))
 
-      pub accepted : (x : Unit {0}) (head goals : List ℕ) (k : ℕ) → AllBytes frame → Went s bs q ds → Ok x ≡ over t es → k ≡ q - p
-          → head ≡ take k frame → goals ≡ drop k frame → Ok (head, goals) ≡ parts_read v m n p frame
-      accepted x head goals k all went h l i j =
-          let moved : Went p frame q ds = subst (λ y. Went p y q ds) at_frame (subst (λ y. Went y bs q ds) at_place went) in
-          let z = splits v m n p frame q ds t all head_left moved (second ∙ ap Ok (over_end Rules t es x h)) in
-          ap Ok (ap₂ (λ a b. (a, b)) (i ∙ ap (λ y. take y frame) l ∙ z.head) (j ∙ ap (λ y. drop y frame) l ∙ z.goals))
+      pub accepted : (x : Unit {0}) (head goals : List ℕ) → AllBytes frame → Went p frame q ds → Ok x ≡ over t es
+          → head ≡ take (q - p) frame → goals ≡ drop (q - p) frame → Ok (head, goals) ≡ parts_read v m n p frame
+      accepted x head goals all went h i j =
+          let z = splits v m n p frame q ds t all first went (second ∙ ap Ok (over_end Rules t es x h)) in
+          ap Ok (ap₂ (λ a b. (a, b)) (i ∙ z.head) (j ∙ z.goals))
           ∙ ap (λ s. go s (λ e. e) (parts_of m)) (sym z.read)

@@ -1,7 +1,7 @@
 -- Passing over terms, command by command. Assumes nothing.
 use Rattle.std.proofs.Common.{◌≡◌, ℕ, suc, ◌+◌, ◌-◌, ◌<◌, ◌≤◌, List, [], ◌∷◌, length, drop, Some, None, Ok, Err, Option, Result, sym, refl, ap, ◌∙◌, subst, arith, length-drop}
 use Rattle.std.proofs.lemmas.List.{drop-drop}
-use Rattle.std.proofs.lemmas.Bool.{lt-ltb, le-ltb}
+use Rattle.std.proofs.lemmas.Bool.{lt-ltb}
 use Rattle.terms.specs.declared.Form.{Form}
 use Rattle.terms.specs.Terms.{Term, var, atom}
 use Rattle.grammar.specs.declared.commands.Command.{Command}
@@ -144,8 +144,3 @@ module _ {f : Form} {v due p : ℕ} {bs : List ℕ} {n q : ℕ} {cs : List ℕ} 
 
   pub finds : (x : RuleFault) (t : Commands) → commands f q cs ≡ t → left (terms v (suc (n - 1)) t) ≡ Err x → left (terms v due (commands f p bs)) ≡ Err x
   finds x t e h = sym s.same ∙ ap (λ k. left (terms v k (commands f q cs))) one_due ∙ ap (λ y. left (terms v (suc (n - 1)) y)) e ∙ h
-
-  pub finds_undeclared : (x : ℕ) → Front f q cs (Var x) → v ≤ x → left (terms v due (commands f p bs)) ≡ Err (Undeclared q)
-  finds_undeclared x h k =
-      finds (Undeclared q) (next q (Var x) (commands f (q + size f (Var x)) (drop (size f (Var x)) cs))) h.is
-      (ap (λ b. left (ask b (Undeclared q) (with_term (var x) (terms v (n - 1) (commands f (q + size f (Var x)) (drop (size f (Var x)) cs)))))) (le-ltb x v k))

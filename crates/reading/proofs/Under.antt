@@ -1,5 +1,5 @@
 -- The rule and the query under a header. Assumes nothing.
-use Rattle.std.proofs.Common.{◌≡◌, ℕ, suc, ◌+◌, List, [], ◌∷◌, length, take, drop, Ok, Err, Result, sym, refl, ap, ◌∙◌, append-nil, arith}
+use Rattle.std.proofs.Common.{◌≡◌, ℕ, suc, ◌+◌, List, [], ◌∷◌, length, take, drop, Ok, Err, Result, sym, refl, ap, ◌∙◌, ap₂, append-nil, arith}
 use Rattle.terms.specs.declared.Form.TheVariants.{Rules}
 use Rattle.terms.specs.Terms.{Term}
 use Rattle.terms.specs.Bytes.{encoding, encodings}
@@ -54,57 +54,65 @@ module _ (v m n p : ℕ) (bs : List ℕ) where
       by (Ok ts) h = let z : ◌≡◌ {A = ℕ} 0 1 = cc in absurd (omega arith)
       by (Err x) h = let same : x ≡ e = cc in ap Err same
 
+-- a rule that stands at the front
+pub at_front : (r : Result RuleView RuleFault) (p : ℕ) (h : Header) → r ≡ rule_under p h → p ≡ 0 → r ≡ rule_under 0 h
+at_front r p h e start = e ∙ ap (λ n. rule_under n h) start
+
 one_more : (g : ℕ) → 1 + g ≡ suc g
 one_more g = omega arith
 
 none_more : (g : ℕ) → 0 + g ≡ g
 none_more g = omega arith
 
--- the rule that is made of a header and two parts
-abbrev pub made_rule : ℕ → Header → List ℕ → List ℕ → RuleView
-made_rule p h head goals =
-    record { place = p; variables = h.variables; goals = h.goals; head = head; head_place = p + header_size; body = goals; body_place = p + header_size + length head }
+-- the rule that is made of a header at p and two parts, the first of them at q
+abbrev pub made_rule : ℕ → ℕ → Header → List ℕ → List ℕ → RuleView
+made_rule p q h head goals =
+    record { place = p; variables = h.variables; goals = h.goals; head = head; head_place = q; body = goals; body_place = q + length head }
 
--- the header h at p, and its frame
-module _ (p : ℕ) (h : Header) (bs : List ℕ) (e : Ok bs ≡ frame_bytes p h) where
+-- the header h at p, and its frame at q
+module _ (p q : ℕ) (h : Header) (bs : List ℕ) (e : Ok bs ≡ frame_bytes p h) (at : q ≡ p + header_size) where
   -- a body of m terms and the goals
-  under : (m due : ℕ) → m + h.goals ≡ due → body due p h ≡ used_up (terms h.variables (m + h.goals) (commands Rules (p + header_size) bs))
-  under m due k = in_frame due p h bs e ∙ ap (λ n. used_up (terms h.variables n (commands Rules (p + header_size) bs))) (sym k)
+  under : (m due : ℕ) → m + h.goals ≡ due → body due p h ≡ used_up (terms h.variables (m + h.goals) (commands Rules q bs))
+  under m due k =
+      in_frame due p h bs e
+      ∙ ap₂ (λ n r. used_up (terms h.variables n (commands Rules r bs))) (sym k) (sym at)
 
   pub rule_refused : {T : Type 0} (f : T → RuleView) (r : Result T RuleFault) (x y : RuleFault) → r ≡ Err x → x ≡ y
-      → Err y ≡ parts_read h.variables 1 h.goals (p + header_size) bs → seen f r ≡ rule_under p h
+      → Err y ≡ parts_read h.variables 1 h.goals q bs → seen f r ≡ rule_under p h
   rule_refused f r x y i j k =
       ap (seen f) (i ∙ ap Err j)
       ∙ ap (λ s. go s (λ e. e) (λ ts. Ok (rule_shown p (rule_of h.variables ts))))
-      (sym (under 1 (rule_due h) (one_more h.goals) ∙ found h.variables 1 h.goals (p + header_size) bs y k))
+      (sym (under 1 (rule_due h) (one_more h.goals) ∙ found h.variables 1 h.goals q bs y k))
 
-  pub rule_read : (head goals : List ℕ) → Ok (head, goals) ≡ parts_read h.variables 1 h.goals (p + header_size) bs → Ok (made_rule p h head goals) ≡ rule_under p h
+  pub rule_read : (head goals : List ℕ) → Ok (head, goals) ≡ parts_read h.variables 1 h.goals q bs → Ok (made_rule p q h head goals) ≡ rule_under p h
   rule_read head goals k =
-      let z = comes h.variables 1 h.goals (p + header_size) bs head goals k in
+      let z = comes h.variables 1 h.goals q bs head goals k in
       ap Ok (by z.ts z.count z.first z.others)
       ∙ ap (λ s. go s (λ e. e) (λ ts. Ok (rule_shown p (rule_of h.variables ts)))) (sym (under 1 (rule_due h) (one_more h.goals) ∙ z.read))
     where
       by : (ts : List Term) → length ts ≡ 1 + h.goals → head ≡ encodings Rules (take 1 ts) → goals ≡ encodings Rules (drop 1 ts)
-          → made_rule p h head goals ≡ rule_shown p (rule_of h.variables ts)
+          → made_rule p q h head goals ≡ rule_shown p (rule_of h.variables ts)
       by [] c i j = absurd (omega arith)
       by (t ∷ ts) c i j =
           let count : h.goals ≡ length ts = omega arith in
           let whole : head ≡ encoding Rules t = i ∙ append-nil (encoding Rules t) in
-          λ k. record { place = p; variables = h.variables; goals = count k; head = whole k; head_place = p + header_size; body = j k; body_place = p + header_size + length (whole k) }
+          λ k. record { place = p; variables = h.variables; goals = count k; head = whole k; head_place = at k; body = j k; body_place = at k + length (whole k) }
 
--- the same at the front
-module _ (h : Header) (bs : List ℕ) (e : Ok bs ≡ frame_bytes 0 h) where
-  pub query_refused : {T : Type 0} (f : T → QueryView) (r : Result T RuleFault) (x y : RuleFault) → r ≡ Err x → x ≡ y
-      → Err y ≡ parts_read h.variables 0 h.goals header_size bs → seen f r ≡ query_under h
-  query_refused f r x y i j k =
-      ap (seen f) (i ∙ ap Err j)
-      ∙ ap (λ s. go s (λ e. e) (λ ts. Ok (query_shown (query_of h.variables ts))))
-      (sym (under 0 h bs e 0 (query_due h) (none_more h.goals) ∙ found h.variables 0 h.goals header_size bs y k))
+  -- the same of a query, at the front
+  module _ (start : p ≡ 0) where
+    under_query : body (query_due h) 0 h ≡ used_up (terms h.variables (0 + h.goals) (commands Rules q bs))
+    under_query = ap (λ r. body (query_due h) r h) (sym start) ∙ under 0 (query_due h) (none_more h.goals)
 
-  pub query_read : (head goals : List ℕ) → Ok (head, goals) ≡ parts_read h.variables 0 h.goals header_size bs
-      → Ok (record { variables = h.variables; goals = h.goals; body = goals; body_place = header_size }) ≡ query_under h
-  query_read head goals k =
-      let z = comes h.variables 0 h.goals header_size bs head goals k in
-      let count : h.goals ≡ length z.ts = omega (arith, z.count) in
-      (λ i. Ok (record { variables = h.variables; goals = count i; body = z.others i; body_place = header_size }))
-      ∙ ap (λ s. go s (λ e. e) (λ ts. Ok (query_shown (query_of h.variables ts)))) (sym (under 0 h bs e 0 (query_due h) (none_more h.goals) ∙ z.read))
+    pub query_refused : {T : Type 0} (f : T → QueryView) (r : Result T RuleFault) (x y : RuleFault) → r ≡ Err x → x ≡ y
+        → Err y ≡ parts_read h.variables 0 h.goals q bs → seen f r ≡ query_under h
+    query_refused f r x y i j k =
+        ap (seen f) (i ∙ ap Err j)
+        ∙ ap (λ s. go s (λ e. e) (λ ts. Ok (query_shown (query_of h.variables ts)))) (sym (under_query ∙ found h.variables 0 h.goals q bs y k))
+
+    pub query_read : (head goals : List ℕ) → Ok (head, goals) ≡ parts_read h.variables 0 h.goals q bs
+        → Ok (record { variables = h.variables; goals = h.goals; body = goals; body_place = header_size }) ≡ query_under h
+    query_read head goals k =
+        let z = comes h.variables 0 h.goals q bs head goals k in
+        let count : h.goals ≡ length z.ts = omega (arith, z.count) in
+        (λ i. Ok (record { variables = h.variables; goals = count i; body = z.others i; body_place = header_size }))
+        ∙ ap (λ s. go s (λ e. e) (λ ts. Ok (query_shown (query_of h.variables ts)))) (sym (under_query ∙ z.read))

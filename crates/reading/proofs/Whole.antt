@@ -1,14 +1,13 @@
 -- A book read to its end, item by item. Assumes nothing.
-use Rattle.std.proofs.Common.{◌≡◌, ℕ, suc, ◌+◌, ◌-◌, ◌<◌, ◌≤◌, Bool, true, false, leb, List, [], ◌∷◌, length, drop, Some, None, Ok, Err, Option, Result, sym, refl, ap, ◌∙◌, subst, arith, length-drop}
+use Rattle.std.proofs.Common.{◌≡◌, ℕ, suc, ◌+◌, ◌-◌, ◌<◌, ◌≤◌, List, [], ◌∷◌, length, drop, Some, None, Ok, Err, Option, Result, sym, refl, ap, ◌∙◌, subst, arith, length-drop}
 use Rattle.std.proofs.lemmas.List.{drop-drop}
 use Rattle.grammar.specs.declared.faults.BookFault.{BookFault}
-use Rattle.grammar.specs.declared.faults.BookFault.TheVariants.{TooLong}
-use Rattle.grammar.specs.Asking.{ask, go}
-use Rattle.grammar.specs.Items.{Item, world, rule, item, counts, with_item, items_past, book, most_bytes}
+use Rattle.grammar.specs.Asking.{go}
+use Rattle.grammar.specs.Items.{Item, world, rule, item, counts, with_item, items_past}
 use Rattle.grammar.proofs.Places.{item_inside}
 use Rattle.grammar.proofs.Rows.{one_more, no_more}
 use Rattle.reading.specs.Views.{seen}
-use Rattle.reading.specs.Books.{BookView, ItemView, first_item, shown_first, passed, counted, next_of, after_item, rule_count, opened}
+use Rattle.reading.specs.Books.{BookView, ItemView, first_item, shown_first, passed, counted, next_of, after_item, rule_count}
 
 -- the rules of what is left of a book, with those before
 abbrev pub rest_count : BookView → Result ℕ BookFault
@@ -64,26 +63,6 @@ follows b = by (next_of b) refl (goes b.rules b.place (drop b.place b.bytes))
 pub told : (b : BookView) (r : Result (Option ItemView) BookFault) → r ≡ shown_first b.place (next_of b) → Follows b r
 told b r e = subst (Follows b) (sym e) (follows b)
 
--- ── from the start ──
-
-plain : (r : Result (List Item) BookFault) → seen (λ is. 0 + rule_count is) r ≡ seen rule_count r
-plain (Ok is) = ap Ok (let same : 0 + rule_count is ≡ rule_count is = omega arith in same)
-plain (Err e) = refl
-
-pub starts : (bs : List ℕ) (b : BookView) → Ok b ≡ opened bs → rest_count b ≡ seen rule_count (book bs)
-starts bs b e = by (leb (length bs) most_bytes) e
-  where
-    by : (t : Bool) → Ok b ≡ ask t TooLong (Ok (record { bytes = bs; place = 0; rules = 0 })) → rest_count b ≡ seen rule_count (ask t TooLong (items_past 0 0 0 bs))
-    by true e = let same : b ≡ record { bytes = bs; place = 0; rules = 0 } = cc in ap rest_count same ∙ plain (items_past 0 0 0 bs)
-    by false e = let z : ◌≡◌ {A = ℕ} 0 1 = cc in absurd (omega arith)
-
-pub starts_not : (bs : List ℕ) (e : BookFault) → Err e ≡ opened bs → seen rule_count (book bs) ≡ Err e
-starts_not bs x e = by (leb (length bs) most_bytes) e
-  where
-    by : (t : Bool) → Err x ≡ ask {T = BookView} t TooLong (Ok (record { bytes = bs; place = 0; rules = 0 })) → seen rule_count (ask t TooLong (items_past 0 0 0 bs)) ≡ Err x
-    by true e = let z : ◌≡◌ {A = ℕ} 0 1 = cc in absurd (omega arith)
-    by false e = let same : TooLong ≡ x = cc in ap Err same
-
 -- ── for the code ──
 
 -- an item was read, and the book stands after it
@@ -92,12 +71,3 @@ pub goes_on : (b d : BookView) (v : ItemView) → Ok (Some v) ≡ shown_first b.
 goes_on b d v e k =
     let h = told b (Ok (Some v)) e in
     (ap rest_count k ∙ h.0, subst (λ m. m < length b.bytes - b.place) (ap (λ x. length x.bytes - x.place) (sym k)) h.1)
-
--- no item was left, and the book stays
-pub ends : (b d : BookView) → Ok None ≡ shown_first b.place (next_of b) → d ≡ after_item b → rest_count b ≡ Ok d.rules
-ends b d e k = told b (Ok None) e ∙ ap Ok (rules_stay (next_of b) refl e ∙ ap (λ x. x.rules) (sym k))
-  where
-    rules_stay : (r : Result (Option (Item × ℕ)) BookFault) → next_of b ≡ r → Ok None ≡ shown_first b.place r → b.rules ≡ b.rules + counted (next_of b)
-    rules_stay (Ok (Some i)) q e = let z : ◌≡◌ {A = ℕ} 0 1 = cc in absurd (omega arith)
-    rules_stay (Ok None) q e = omega (arith, ap counted q)
-    rules_stay (Err x) q e = let z : ◌≡◌ {A = ℕ} 0 1 = cc in absurd (omega arith)

@@ -1,38 +1,32 @@
 -- A book as it is read, item by item. Assumes nothing.
-use Rattle.std.specs.Prelude.{ℕ, ◌+◌, ◌≤◌, max, List, [], ◌∷◌, length, drop, Some, None, Ok, Err, Option, Result, nat_le, nat_lt}
+use Rattle.std.specs.Prelude.{ℕ, ◌+◌, List, [], ◌∷◌, length, drop, Some, None, Ok, Err, Option, Result, nat_le, nat_lt}
 use Rattle.std.specs.Option.{option_map}
-use Rattle.grammar.specs.declared.faults.RuleFault.{RuleFault}
 use Rattle.grammar.specs.declared.faults.RuleFault.TheVariants.{Command}
 use Rattle.grammar.specs.declared.faults.BookFault.{BookFault}
 use Rattle.grammar.specs.declared.faults.BookFault.TheVariants.{Rule as InRule, TooLong, TooManyRules}
 use Rattle.grammar.specs.Asking.{ask, go}
-use Rattle.grammar.specs.Singles.{Header, header}
+use Rattle.grammar.specs.Singles.{header_size, header}
 use Rattle.grammar.specs.Items.{Item, world, rule, item, counts, rules, most_bytes, most_rules}
 use Rattle.reading.specs.declared.books.Item.{Item as ReadItem}
-use Rattle.reading.specs.declared.books.Item.TheVariants.{World as ReadWorld, Rule as ReadRule}
+use Rattle.reading.specs.declared.books.Item.TheVariants.{World as WorldItem, Rule as RuleItem}
 use Rattle.reading.specs.declared.books.Book.{Book as ReadBook}
+use Rattle.reading.specs.declared.rules.Rule.{Rule as ReadRule}
 use Rattle.reading.specs.Views.{seen, RuleView, rule_view, rule_shown, rule_under}
 
--- a fault in the rule with the number n
-abbrev pub numbered_by : {T : Type 0} → ℕ → Result T RuleFault → Result T BookFault
-numbered_by n r = go r (InRule n) (λ x. Ok x)
-
--- the header of a rule at p, by the bytes after its first
-abbrev pub rule_header : ℕ → List ℕ → Result Header RuleFault
-rule_header p bs = go (header p bs) Command (λ h. Ok h)
-
--- the rule at p, after n rules, by the bytes after its first
-abbrev pub rule_item_shown : ℕ → ℕ → List ℕ → Result RuleView BookFault
+-- the rule at p, after n rules, by the bytes after its first, and how many bytes it has
+abbrev pub rule_item_shown : ℕ → ℕ → List ℕ → Result (RuleView × ℕ) BookFault
 rule_item_shown n p bs =
-    go (numbered_by n (rule_header p bs)) (λ e. e) (λ h. ask (nat_lt n most_rules) (TooManyRules p n) (numbered_by n (rule_under p h)))
+    go (header p bs) (λ e. InRule n (Command e)) (λ h.
+    ask (nat_lt n most_rules) (TooManyRules p n)
+    (go (rule_under p h) (InRule n) (λ v. Ok (v, header_size + h.size))))
 
 pub data ItemView : Type 0 where
   world_seen : ℕ → ℕ → ItemView
   rule_seen : RuleView → ItemView
 
 abbrev pub item_view : ReadItem → ItemView
-item_view (ReadWorld w p) = world_seen w p
-item_view (ReadRule r) = rule_seen (rule_view r)
+item_view (WorldItem w p) = world_seen w p
+item_view (RuleItem r) = rule_seen (rule_view r)
 
 -- an item of the book that stands at p
 abbrev pub item_shown : ℕ → Item → ItemView
@@ -85,7 +79,10 @@ abbrev pub item_count : ItemView → ℕ
 item_count (world_seen w p) = 0
 item_count (rule_seen r) = 1
 
--- an item with its number of bytes
+-- a rule, and an item, with its number of bytes
+abbrev pub sized_rule : ReadRule × ℕ → RuleView × ℕ
+sized_rule x = (rule_view x.0, x.1)
+
 abbrev pub sized_view : ReadItem × ℕ → ItemView × ℕ
 sized_view x = (item_view x.0, x.1)
 
@@ -94,12 +91,6 @@ sized_shown p i = (item_shown p i.0, 1 + i.1)
 
 abbrev pub sized_first : ℕ → Result (Option (Item × ℕ)) BookFault → Result (Option (ItemView × ℕ)) BookFault
 sized_first p r = seen (option_map (sized_shown p)) r
-
--- an item lies inside the bytes, and its rules can be counted
-abbrev pub Inside : ℕ → ℕ → Result (Option (ItemView × ℕ)) BookFault → Type 0
-Inside n l (Ok (Some x)) = (x.1 ≤ l) × (n + item_count x.0 ≤ max n most_rules)
-Inside n l (Ok None) = Unit {0}
-Inside n l (Err e) = Unit {0}
 
 -- the number of rules of a book
 abbrev pub rule_count : List Item → ℕ

@@ -11,7 +11,7 @@ use Rattle.grammar.specs.declared.faults.SingleFault.TheVariants.{Inside, Start,
 use Rattle.grammar.specs.Asking.{ask, go}
 use Rattle.grammar.specs.TermCommands.{commands, terms}
 use Rattle.grammar.specs.Singles.{Header, header_size, most_variables, most_goals, longest, header, used_up, body, rule_due, rule_of, query_due, query_of}
-use Rattle.reading.specs.declared.rules.Header.{Header as ReadHeader}
+use Rattle.reading.specs.declared.headers.Header.{Header as ReadHeader}
 use Rattle.reading.specs.declared.rules.Rule.{Rule as ReadRule}
 use Rattle.reading.specs.declared.rules.Query.{Query as ReadQuery}
 
@@ -20,7 +20,7 @@ seen f (Ok x) = Ok (f x)
 seen f (Err e) = Err e
 
 abbrev pub header_view : ReadHeader → Header
-header_view h = record { variables = h.variables; goals = h.goals; size = h.length; rest = h.rest.now }
+header_view h = record { variables = h.variables; goals = h.goals; size = h.size; rest = h.rest.now }
 
 -- the bytes of the terms under a header at p, within the limits
 abbrev pub frame_bytes : ℕ → Header → Result (List ℕ) RuleFault

@@ -1,20 +1,16 @@
 // Books.
-ghost use Rattle.std.specs.Prelude.{◌≡◌, ◌+◌, ◌^◌, ◌<◌, length, drop, IfOk};
+ghost use Rattle.std.specs.Prelude.{◌≡◌, ◌^◌, ◌<◌, drop};
 ghost use Rattle.std.specs.Option.{option_map};
 ghost use Rattle.grammar.specs.Items.{book as grammar_book};
-ghost use Rattle.reading.specs.Views.{seen, header_view, rule_view};
-ghost use Rattle.reading.specs.Taking.{one_byte};
-ghost use Rattle.reading.specs.Books.{numbered_by, rule_header, rule_item_shown, item_view, item_size, book_view, opened, first_item, shown_first, item_count, sized_view, sized_first, Inside, next_of, after_item, rule_count};
+ghost use Rattle.reading.specs.Views.{seen};
+ghost use Rattle.reading.specs.Books.{rule_item_shown, sized_rule, item_view, book_view, opened, first_item, shown_first, item_count, sized_view, sized_first, next_of, after_item, rule_count};
 
-use crate::rules::{Header, RULE, Rule};
-use grammar::faults::{BookFault, CommandFault, RuleFault};
-
-// the first byte of a world
-const WORLD: u8 = 0x11;
-
-const MOST_BYTES: usize = 16384;
-
-const MOST_RULES: u16 = 1024;
+use crate::commands::{Reader, one_byte};
+use crate::headers::Header;
+use crate::rules::Rule;
+use grammar::bytes::{RULE, WORLD};
+use grammar::faults::{BookFault, RuleFault};
+use grammar::limits::{HEADER, MOST_BYTES, MOST_RULES, WORLD_SIZE};
 
 // What a book is made of.
 #[derive(Clone, Copy)]
@@ -32,80 +28,47 @@ pub struct Book<'a> {
     rules: u16,
 }
 
-// A fault in the rule with this number.
-fn numbered<T>(number: u16, res: Result<T, RuleFault>) -> Result<T, BookFault>
-    ensures { result ≡ numbered_by number res }
+// The rule that a reader stands at, after so many rules, and how many bytes it has.
+fn rule_item<'a>(from: &Reader<'a>, rules: u16) -> Result<(Rule<'a>, usize), BookFault>
+    ensures { seen sized_rule result ≡ rule_item_shown rules from.now.place (drop 1 from.now.bytes.now) }
 {
-    match res {
-        Ok(value) => Ok(value),
-        Err(fault) => Err(BookFault::Rule { number, fault }),
-    }
-}
-
-// The header of a rule.
-fn rule_header<'a>(bytes: &'a [u8], place: usize) -> Result<Header<'a>, RuleFault>
-    ensures value { seen header_view result ≡ rule_header place (drop 1 bytes.now) }
-    ensures within { IfOk result (λ h. 5 + length h.rest.now ≡ length bytes.now) }
-{
-    Ok(Header::read(bytes, place)?)
-}
-
-// The rule that `bytes` begin with, at `place`, after so many rules.
-fn rule_item<'a>(bytes: &'a [u8], place: usize, rules: u16) -> Result<Rule<'a>, BookFault>
-    requires { place + length bytes.now < 2 ^ 64 }
-    ensures { seen rule_view result ≡ rule_item_shown rules place (drop 1 bytes.now) }
-{
-    let header = numbered(rules, rule_header(bytes, place))?;
+    let header = Header::read(from).map_err(|fault| BookFault::Rule {
+        number: rules,
+        fault: RuleFault::Command(fault),
+    })?;
     if rules >= MOST_RULES {
         return Err(BookFault::TooManyRules {
-            place,
+            place: from.place,
             number: rules,
         });
     }
-    numbered(rules, header.rule(place))
+    let rule = header.rule().map_err(|fault| BookFault::Rule {
+        number: rules,
+        fault,
+    })?;
+    Ok((rule, HEADER + usize::from(header.size)))
 }
 
-// The number of the world at `place`, whose operands these are.
-fn world_number(operands: &[u8], place: usize) -> Result<u8, CommandFault>
-    ensures { result ≡ one_byte place operands.now }
+// The item that a reader stands at, after so many rules, and how many bytes it has.
+fn item_at<'a>(from: &Reader<'a>, rules: u16) -> Result<Option<(Item<'a>, usize)>, BookFault>
+    ensures { seen (option_map sized_view) result ≡ sized_first from.now.place (first_item rules from.now.place from.now.bytes.now) }
 {
-    let [number, ..] = operands else {
-        return Err(CommandFault::Operands { place });
-    };
-    Ok(*number)
-}
-
-// The item that `bytes` begin with, at `place`, after so many rules.
-fn item_at<'a>(bytes: &'a [u8], place: usize, rules: u16) -> Result<Option<Item<'a>>, BookFault>
-    requires { place + length bytes.now < 2 ^ 64 }
-    ensures { seen (option_map item_view) result ≡ shown_first place (first_item rules place bytes.now) }
-{
-    let [first, operands @ ..] = bytes else {
-        return Ok(None);
-    };
-    if *first == RULE {
-        let rule = rule_item(bytes, place, rules)?;
-        return Ok(Some(Item::Rule(rule)));
+    let place = from.place;
+    match from.bytes {
+        [] => Ok(None),
+        [RULE, ..] => {
+            let (rule, size) = rule_item(from, rules)?;
+            Ok(Some((Item::Rule(rule), size)))
+        }
+        [WORLD, operands @ ..] => {
+            let number = one_byte(operands, place)?;
+            Ok(Some((Item::World { number, place }, WORLD_SIZE)))
+        }
+        _ => Err(BookFault::NoItem { place }),
     }
-    if *first == WORLD {
-        let number = world_number(operands, place)?;
-        return Ok(Some(Item::World { number, place }));
-    }
-    Err(BookFault::NoItem { place })
 }
 
 impl Item<'_> {
-    // How many bytes it has.
-    fn size(&self) -> usize
-        requires { item_size (item_view self.now) < 2 ^ 64 }
-        ensures { result ≡ item_size (item_view self.now) }
-    {
-        match self {
-            Item::World { .. } => 2,
-            Item::Rule(rule) => 5 + rule.head.len() + rule.body.len(),
-        }
-    }
-
     // How many rules it is.
     fn count(&self) -> u16
         ensures { result ≡ item_count (item_view self.now) }
@@ -115,23 +78,6 @@ impl Item<'_> {
             Item::Rule(_) => 1,
         }
     }
-}
-
-// The item that `bytes` begin with, and how many bytes it has.
-fn sized_item<'a>(
-    bytes: &'a [u8],
-    place: usize,
-    rules: u16,
-) -> Result<Option<(Item<'a>, usize)>, BookFault>
-    requires { place + length bytes.now < 2 ^ 64 }
-    ensures value { seen (option_map sized_view) result ≡ sized_first place (first_item rules place bytes.now) }
-    ensures inside { Inside rules (length bytes.now) (seen (option_map sized_view) result) }
-{
-    let Some(item) = item_at(bytes, place, rules)? else {
-        return Ok(None);
-    };
-    let size = item.size();
-    Ok(Some((item, size)))
 }
 
 impl<'a> Book<'a> {
@@ -149,20 +95,18 @@ impl<'a> Book<'a> {
         })
     }
 
-    // The place of the next item.
+    // The place of the next item. A reader tells its own so too: one line of each.
     pub fn place(&self) -> usize
         ensures { result ≡ self.now.place }
     {
-        let Book { place, .. } = self;
-        *place
+        self.place
     }
 
     // The number of rules before the next item.
     pub fn rules(&self) -> u16
         ensures { result ≡ self.now.rules }
     {
-        let Book { rules, .. } = self;
-        *rules
+        self.rules
     }
 
     // The next item, or nothing at the end. A fault leaves the book where it was.
@@ -170,15 +114,15 @@ impl<'a> Book<'a> {
         ensures value { seen (option_map item_view) result ≡ shown_first self.old.place (next_of (book_view self.old)) }
         ensures after { book_view self.new ≡ after_item (book_view self.old) }
     {
-        let place = self.place;
-        if place >= self.bytes.len() {
-            return Ok(None);
-        }
-        let Some((item, size)) = sized_item(&self.bytes[place..], place, self.rules)? else {
+        let next = Reader::from_place(self.bytes, self.place);
+        let Some((item, size)) = item_at(&next, self.rules)? else {
             return Ok(None);
         };
-        self.place = place + size;
-        self.rules += item.count();
+        *self = Book {
+            bytes: self.bytes,
+            place: self.place + size,
+            rules: self.rules + item.count(),
+        };
         Ok(Some(item))
     }
 }

@@ -3,6 +3,7 @@ ghost use Rattle.std.specs.Prelude.{◌≡◌, ◌+◌, ◌*◌, ◌^◌, ◌<�
 ghost use Rattle.grammar.specs.TermCommands.{command as grammar_command, commands, terms as grammar_terms};
 ghost use Rattle.reading.specs.Taking.{one_byte, two_bytes, first_command, size, taken_size, left, Passed, Went, over};
 
+use grammar::bytes::{ATOM, PAIR, UNKNOWN, VARIABLE};
 use grammar::commands::Command;
 use grammar::faults::{CommandFault, RuleFault};
 use terms::Form;
@@ -10,29 +11,30 @@ use terms::Form;
 // What is left of a frame, and the place of its first byte in all the bytes.
 #[derive(Drop)]
 pub struct Reader<'a> {
-    bytes: &'a [u8],
-    place: usize,
+    pub(crate) bytes: &'a [u8],
+    pub(crate) place: usize,
     ghost counted: { place + length bytes.now < 2 ^ 64 },
 }
 
 // An operand of one byte, of the command at `place`.
-fn one_byte(operands: &[u8], place: usize) -> Result<u16, CommandFault>
+pub(crate) fn one_byte(operands: &[u8], place: usize) -> Result<u8, CommandFault>
     ensures { result ≡ one_byte place operands.now }
 {
-    let [number, ..] = operands else {
-        return Err(CommandFault::Operands { place });
-    };
-    Ok(u16::from(*number))
+    operands
+        .first()
+        .copied()
+        .ok_or(CommandFault::Operands { place })
 }
 
 // An operand of two bytes, the high one first.
 fn two_bytes(operands: &[u8], place: usize) -> Result<u16, CommandFault>
     ensures { result ≡ two_bytes place operands.now }
 {
-    let [high, low, ..] = operands else {
-        return Err(CommandFault::Operands { place });
-    };
-    Ok(u16::from(*high) * 256 + u16::from(*low))
+    operands
+        .first_chunk()
+        .copied()
+        .map(u16::from_be_bytes)
+        .ok_or(CommandFault::Operands { place })
 }
 
 // The command at `place` whose first byte is `first`, with the bytes of the frame after it.
@@ -40,10 +42,10 @@ fn command_of(first: u8, operands: &[u8], place: usize, form: Form) -> Result<Co
     ensures { result ≡ grammar_command form place first operands.now }
 {
     match (first, form) {
-        (0x01, _) => Ok(Command::Atom(two_bytes(operands, place)?)),
-        (0x03, _) => Ok(Command::Pair),
-        (0x02, Form::Rules) => Ok(Command::Var(one_byte(operands, place)?)),
-        (0x04, Form::Slips) => Ok(Command::Var(two_bytes(operands, place)?)),
+        (ATOM, _) => two_bytes(operands, place).map(Command::Atom),
+        (PAIR, _) => Ok(Command::Pair),
+        (VARIABLE, Form::Rules) => one_byte(operands, place).map(u16::from).map(Command::Var),
+        (UNKNOWN, Form::Slips) => two_bytes(operands, place).map(Command::Var),
         _ => Err(CommandFault::NoTerm { place }),
     }
 }
@@ -72,30 +74,17 @@ impl<'a> Reader<'a> {
         ensures bytes { result.bytes.now ≡ drop place bytes.now }
         ensures place { result.place ≡ place }
     {
-        if place >= bytes.len() {
-            return Reader { bytes: &[], place };
-        }
         Reader {
-            bytes: &bytes[place..],
+            bytes: bytes.get(place..).unwrap_or(&[]),
             place,
         }
-    }
-
-    // A reader of a frame that begins at this place.
-    pub(crate) fn at(bytes: &'a [u8], place: usize) -> Reader<'a>
-        requires { place + length bytes.now < 2 ^ 64 }
-        ensures bytes { result.bytes.now ≡ bytes.now }
-        ensures place { result.place ≡ place }
-    {
-        Reader { bytes, place }
     }
 
     // The place of the next command.
     pub fn place(&self) -> usize
         ensures { result ≡ self.now.place }
     {
-        let Reader { place, .. } = self;
-        *place
+        self.place
     }
 
     // Takes the term command that stands next, or nothing at the end of the frame. A fault takes nothing.
@@ -109,22 +98,19 @@ impl<'a> Reader<'a> {
         };
         let command = command_of(*first, operands, self.place, form)?;
         let size = size_of(command, form);
-        self.bytes = &self.bytes[size..];
-        self.place += size;
+        *self = Reader {
+            bytes: &self.bytes[size..],
+            place: self.place + size,
+        };
         Ok(Some(command))
     }
 
     // Takes as many terms as are due, over so many variables.
-    pub(crate) fn terms(
-        &mut self,
-        form: Form,
-        variables: u8,
-        mut due: usize,
-    ) -> Result<(), RuleFault>
-        requires { due + length self.old.bytes.now < 2 ^ 64 }
+    pub(crate) fn terms(&mut self, form: Form, variables: u8, due: u8) -> Result<(), RuleFault>
         ensures value { Passed (left (grammar_terms variables due (commands form self.old.place self.old.bytes.now))) result (commands form self.new.place self.new.bytes.now) }
         ensures went { Went self.old.place self.old.bytes.now self.new.place self.new.bytes.now }
     {
+        let mut due = usize::from(due);
         while due > 0 {
             let place = self.place;
             let Some(command) = self.command(form)? else {

@@ -3,4 +3,5 @@
 
 pub mod books;
 pub mod commands;
+mod headers;
 pub mod rules;

@@ -4,21 +4,11 @@ ghost use Rattle.grammar.specs.Singles.{header as grammar_header, rule as gramma
 ghost use Rattle.reading.specs.Views.{seen, header_view, rule_view, rule_shown, query_view, query_shown, both_views, parts_read, rule_under, query_under, frame_bytes, single_header, single_end};
 
 use crate::commands::Reader;
+use crate::headers::Header;
+use grammar::bytes::{QUERY, RULE};
 use grammar::faults::{CommandFault, RuleFault, SingleFault};
+use grammar::limits::{HEADER, LONGEST, MOST_GOALS, MOST_VARIABLES};
 use terms::Form;
-
-// the first byte of a rule, and of a query
-pub(crate) const RULE: u8 = 0x10;
-
-const QUERY: u8 = 0x12;
-// how many bytes a header has
-const HEADER: usize = 5;
-
-const MOST_VARIABLES: u8 = 64;
-
-const MOST_GOALS: u8 = 16;
-
-const LONGEST: usize = 512;
 
 // A rule in the caller's bytes.
 #[derive(Clone, Copy)]
@@ -43,100 +33,95 @@ pub struct Query<'a> {
     pub body_place: usize,
 }
 
-// The numbers of a header, and the bytes after it.
-#[derive(Clone, Copy)]
-pub(crate) struct Header<'a> {
-    pub(crate) variables: u8,
-    pub(crate) goals: u8,
-    pub(crate) length: usize,
-    pub(crate) rest: &'a [u8],
-}
-
 impl<'a> Header<'a> {
-    // The header that `bytes` begin with, at `place`.
-    pub(crate) fn read(bytes: &'a [u8], place: usize) -> Result<Header<'a>, CommandFault>
-        ensures value { seen header_view result ≡ grammar_header place (drop 1 bytes.now) }
-        ensures within { IfOk result (λ h. 5 + length h.rest.now ≡ length bytes.now) }
+    // The header that stands where a reader does.
+    pub(crate) fn read(from: &Reader<'a>) -> Result<Header<'a>, CommandFault>
+        ensures value { seen header_view result ≡ grammar_header from.now.place (drop 1 from.now.bytes.now) }
+        ensures place { IfOk result (λ h. h.place ≡ from.now.place) }
     {
-        let [_, variables, goals, high, low, rest @ ..] = bytes else {
+        let place = from.place;
+        let [_, variables, goals, high, low, rest @ ..] = from.bytes else {
             return Err(CommandFault::Operands { place });
         };
-        let length = *high as usize * 256 + *low as usize;
         Ok(Header {
+            place,
             variables: *variables,
             goals: *goals,
-            length,
+            size: u16::from_be_bytes([*high, *low]),
             rest,
         })
     }
 
-    // The bytes of the terms.
-    fn frame(&self, place: usize) -> Result<&'a [u8], RuleFault>
-        ensures value { seen (λ x. x.now) result ≡ frame_bytes place (header_view self.now) }
+    // The frame of the terms.
+    fn frame(&self) -> Result<Reader<'a>, RuleFault>
+        ensures value { seen (λ r. r.bytes.now) result ≡ frame_bytes self.now.place (header_view self.now) }
+        ensures place { IfOk result (λ r. r.place ≡ self.now.place + 5) }
     {
+        let place = self.place;
+        let size = usize::from(self.size);
         if self.variables > MOST_VARIABLES {
             return Err(RuleFault::Variables { place });
         }
         if self.goals > MOST_GOALS {
             return Err(RuleFault::Goals { place });
         }
-        if self.length > LONGEST || self.length > self.rest.len() {
+        if size > LONGEST || size > self.rest.len() {
             return Err(RuleFault::Length { place });
         }
-        Ok(&self.rest[0..self.length])
+        Ok(Reader {
+            bytes: &self.rest[..size],
+            place: place + HEADER,
+        })
     }
 
     // The header of a rule or a query that stands by itself and begins with this byte.
     fn single(bytes: &'a [u8], byte: u8) -> Result<Header<'a>, SingleFault>
         ensures value { seen header_view result ≡ single_header byte bytes.now }
-        ensures within { IfOk result (λ h. 5 + length h.rest.now ≡ length bytes.now) }
+        ensures place { IfOk result (λ h. h.place ≡ 0) }
     {
         match bytes {
-            [first, ..] if *first == byte => Ok(Header::read(bytes, 0)?),
+            [first, ..] if *first == byte => Ok(Header::read(&Reader::new(bytes))?),
             _ => Err(SingleFault::Start { place: 0 }),
         }
     }
 
     // The bytes end with the terms under this header.
     fn end(&self) -> Result<(), SingleFault>
-        requires { 5 + self.now.length < 2 ^ 64 }
         ensures { result ≡ single_end (header_view self.now) }
     {
-        if self.rest.len() > self.length {
+        let size = usize::from(self.size);
+        if self.rest.len() > size {
             return Err(SingleFault::BytesLeft {
-                place: HEADER + self.length,
+                place: HEADER + size,
             });
         }
         Ok(())
     }
 
-    // The rule under this header, which stands at `place`.
-    pub(crate) fn rule(&self, place: usize) -> Result<Rule<'a>, RuleFault>
-        requires { place + 5 + length self.now.rest.now < 2 ^ 64 }
-        ensures value { seen rule_view result ≡ rule_under place (header_view self.now) }
+    // The rule under this header.
+    pub(crate) fn rule(&self) -> Result<Rule<'a>, RuleFault>
+        ensures { seen rule_view result ≡ rule_under self.now.place (header_view self.now) }
     {
-        let frame = self.frame(place)?;
-        let head_place = place + HEADER;
-        let (head, body) = parts(frame, head_place, self.variables, 1, self.goals)?;
-        let body_place = head_place + head.len();
+        let frame = self.frame()?;
+        let (head, body) = parts(frame.bytes, frame.place, self.variables, 1, self.goals)?;
         Ok(Rule {
-            place,
+            place: self.place,
             variables: self.variables,
             goals: self.goals,
             head,
-            head_place,
+            head_place: frame.place,
             body,
-            body_place,
+            body_place: frame.place + head.len(),
         })
     }
 
-    // The query under this header.
+    // The query under this header, which stands at the front.
     fn query(&self) -> Result<Query<'a>, RuleFault>
-        requires { 5 + length self.now.rest.now < 2 ^ 64 }
-        ensures value { seen query_view result ≡ query_under (header_view self.now) }
+        requires { self.now.place ≡ 0 }
+        ensures { seen query_view result ≡ query_under (header_view self.now) }
     {
-        let frame = self.frame(0)?;
-        let (_, body) = parts(frame, HEADER, self.variables, 0, self.goals)?;
+        let frame = self.frame()?;
+        let (_, body) = parts(frame.bytes, frame.place, self.variables, 0, self.goals)?;
         Ok(Query {
             variables: self.variables,
             goals: self.goals,
@@ -146,22 +131,26 @@ impl<'a> Header<'a> {
     }
 }
 
-// The bytes of the head, which has so many terms, and of the goals, in a frame that begins at `place`.
+// The bytes of the head, which has so many terms, and of the goals, in a frame that begins at `place`. It takes the bytes
+// apart from a reader, since the proof learns only from a parameter that is a slice that each of them is below 256.
 fn parts<'a>(
     frame: &'a [u8],
     place: usize,
     variables: u8,
-    heads: usize,
+    heads: u8,
     goals: u8,
 ) -> Result<(&'a [u8], &'a [u8]), RuleFault>
-    requires { (place + length frame.now < 2 ^ 64) × ((length frame.now ≤ 512) × (heads ≤ 1)) }
+    requires { place + length frame.now < 2 ^ 64 }
     ensures value { seen both_views result ≡ parts_read variables heads goals place frame.now }
     ensures within { IfOk result (λ x. length x.0.now ≤ length frame.now) }
 {
-    let mut reader = Reader::at(frame, place);
+    let mut reader = Reader {
+        bytes: frame,
+        place,
+    };
     reader.terms(Form::Rules, variables, heads)?;
-    let size = reader.place() - place;
-    reader.terms(Form::Rules, variables, goals as usize)?;
+    let size = reader.place - place;
+    reader.terms(Form::Rules, variables, goals)?;
     reader.finish()?;
     Ok(frame.split_at(size))
 }
@@ -171,12 +160,13 @@ pub fn read_rule<'a>(bytes: &'a [u8]) -> Result<Rule<'a>, SingleFault>
     ensures { seen rule_view result ≡ seen (rule_shown 0) (grammar_rule bytes.now) }
 {
     let header = Header::single(bytes, RULE)?;
-    let rule = header.rule(0)?;
+    let rule = header.rule()?;
     header.end()?;
     Ok(rule)
 }
 
-// Reads a query.
+// Reads a query. The three steps of read_rule differ in the byte, the method and the type, so that a function for both
+// would be longer than they are.
 pub fn read_query<'a>(bytes: &'a [u8]) -> Result<Query<'a>, SingleFault>
     ensures { seen query_view result ≡ seen query_shown (grammar_query bytes.now) }
 {

@@ -4,7 +4,7 @@ pub mod Allowance
 pub mod Sessions
 pub mod Cells
 pub mod Order
-pub mod Limits
+pub mod Within
 pub mod Follows
 pub mod Declared
 pub mod Steps

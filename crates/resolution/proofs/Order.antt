@@ -50,7 +50,7 @@ beyond_later (a ∷ A) [] h = omega (arith, h)
 beyond_later (a ∷ A) (b ∷ bs) (inl h) = inl h
 beyond_later (a ∷ A) (b ∷ bs) (inr h) = inr (h.0, beyond_later A bs h.1)
 
--- dictionary order is transitive, and no list comes after itself
+-- dictionary order is transitive
 pub later_trans : (A B C : List ℕ) → Later A B → Later B C → Later A C
 later_trans [] [] C h k = absurd h
 later_trans [] (b ∷ B) [] h k = k
@@ -61,11 +61,6 @@ later_trans (a ∷ A) (b ∷ B) (c ∷ C) (inl h) (inl k) = inl (omega (arith, h
 later_trans (a ∷ A) (b ∷ B) (c ∷ C) (inl h) (inr k) = inl (omega (arith, h, k.0))
 later_trans (a ∷ A) (b ∷ B) (c ∷ C) (inr h) (inl k) = inl (omega (arith, h.0, k))
 later_trans (a ∷ A) (b ∷ B) (c ∷ C) (inr h) (inr k) = inr (omega (arith, h.0, k.0), later_trans A B C h.1 k.1)
-
-pub later_irrefl : (A : List ℕ) → Later A A → ⊥
-later_irrefl [] h = h
-later_irrefl (a ∷ A) (inl h) = omega (arith, h)
-later_irrefl (a ∷ A) (inr h) = later_irrefl A h.1
 
 module _ (rs : List Rule) (A : List ℕ) where
   -- where goals and due stand at rules taken so far, what comes is after A

@@ -2,6 +2,7 @@ pub mod Rules
 pub mod Cells
 pub mod Follows
 pub mod Limits
+pub mod Printed
 pub mod Lines
 pub mod Search
 pub mod Calls

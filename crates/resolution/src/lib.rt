@@ -2,13 +2,19 @@
 // shared by them and by the code that meets them, and each function carries a theorem in its contract.
 #![tactic(auto)]
 
-ghost use Rattle.std.specs.Prelude.{◌≡◌};
+ghost use Rattle.std.specs.Prelude.{◌≡◌, Some};
 ghost use Rattle.resolution.specs.Limits.{refusal_number};
+ghost use Rattle.resolution.specs.Printed.{stop_text, word_text, refusal_text};
 ghost use Rattle.resolution.specs.Examples.{Worked};
 ghost use Rattle.resolution.specs.Laws.{OneByOne, Refuses, KeepsToAllowance, Splits, Sound, NoneMeansNone, InOrder, StepsFit, WithinLimits, EndedBare, Tallies};
 
+use std::error::Error;
+use std::fmt;
+
+pub mod limits;
+
 // Why a search stops for good.
-#[derive(Clone, Copy, PartialEq, Eq)]
+#[derive(Clone, Copy, PartialEq, Eq, Debug)]
 pub enum Stop {
     // the branch has as many steps as it may
     Deep,
@@ -17,7 +23,7 @@ pub enum Stop {
 }
 
 // What a call of next says.
-#[derive(Clone, Copy, PartialEq, Eq)]
+#[derive(Clone, Copy, PartialEq, Eq, Debug)]
 pub enum Word {
     // no goal remains, and the answer stands
     Answer,
@@ -29,15 +35,39 @@ pub enum Word {
     NoMore,
 }
 
+impl fmt::Display for Stop {
+    ghost output = { λ s. Some (stop_text s) };
+
+    fn fmt<W: fmt::Write>(&self, f: &mut fmt::Formatter<W>) -> fmt::Result {
+        match self {
+            Stop::Deep => f.write_str("deep"),
+            Stop::Cells => f.write_str("cells"),
+        }
+    }
+}
+
+impl fmt::Display for Word {
+    ghost output = { λ w. Some (word_text w) };
+
+    fn fmt<W: fmt::Write>(&self, f: &mut fmt::Formatter<W>) -> fmt::Result {
+        match self {
+            Word::Answer => f.write_str("answer"),
+            Word::Spent => f.write_str("spent"),
+            Word::Stopped(stop) => stop.fmt(f),
+            Word::NoMore => f.write_str("none"),
+        }
+    }
+}
+
 // The word of a call of next, and the tries made in it.
-#[derive(Clone, Copy)]
+#[derive(Clone, Copy, PartialEq, Eq, Debug)]
 pub struct Outcome {
     pub word: Word,
     pub tries: u32,
 }
 
 // Why a call is refused.
-#[derive(Clone, Copy)]
+#[derive(Clone, Copy, PartialEq, Eq, Debug)]
 pub enum Refusal {
     // the allowance is above its limit
     Allowance,
@@ -53,8 +83,18 @@ impl Refusal {
     }
 }
 
+impl fmt::Display for Refusal {
+    ghost output = { λ e. Some (refusal_text e) };
+
+    fn fmt<W: fmt::Write>(&self, f: &mut fmt::Formatter<W>) -> fmt::Result {
+        write!(f, "{}", self.number())
+    }
+}
+
+impl Error for Refusal {}
+
 // Tries and answers since opening or the last rewind, and the steps and cells in use.
-#[derive(Clone, Copy)]
+#[derive(Clone, Copy, PartialEq, Eq, Debug)]
 pub struct Tally {
     pub tries: u32,
     pub answers: u32,

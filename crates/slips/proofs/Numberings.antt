@@ -1,5 +1,5 @@
 -- Terms numbered while they are written, and the table of numbers. Assumes nothing.
-use Rattle.std.proofs.Common.{◌≡◌, ℕ, ◌+◌, ◌<◌, ◌≤◌, Bool, true, false, cond, eqb, List, [], ◌∷◌, ◌++◌, map, length, get_or, take, drop, set, replicate, sym, refl, ap, ◌∙◌, subst, arith, length-append, length-drop, length-set, take-append-drop, length-take-le, get_or-set_other, get_or-set_same, take-add}
+use Rattle.std.proofs.Common.{◌≡◌, ℕ, ◌+◌, ◌<◌, ◌≤◌, Bool, true, false, cond, eqb, List, [], ◌∷◌, ◌++◌, map, length, get_or, take, drop, set, replicate, Some, None, Option, sym, refl, ap, ◌∙◌, subst, arith, length-append, length-drop, length-set, take-append-drop, length-take-le, get_or-set_other, get_or-set_same, take-add}
 use lib.ListN.{length-map, length-replicate, get_or-replicate}
 use Rattle.std.proofs.lemmas.List.{take-map, drop-map}
 use Rattle.std.proofs.lemmas.Bool.{true≢false, eqb-true, eqb-false}
@@ -7,8 +7,8 @@ use Rattle.terms.specs.declared.Form.TheVariants.{Slips}
 use Rattle.terms.specs.Terms.{Term, var, atom, pair}
 use Rattle.terms.specs.Bytes.{two, encoding, encodings}
 use Rattle.slips.specs.Slips.{among, position, appeared, all_appeared, renumbered, numbered}
-use Rattle.slips.specs.Numberings.{Names, own, by_first, term_bytes, names_after, unmet, Numbers}
-use Rattle.slips.proofs.Unknowns.{among_end, appeared_known, all_appeared_known, position_below, count_most, end_other, count_new, count_none, Extends, appeared_extends, all_appeared_extends, position_kept, position_new, renumbered_kept, all_renumbered_kept, all_appeared_append}
+use Rattle.slips.specs.Numberings.{Names, own, by_first, term_bytes, names_after, Numbers}
+use Rattle.slips.proofs.Unknowns.{among_end, appeared_known, all_appeared_known, count_most, end_other, count_new, count_none, Extends, appeared_extends, all_appeared_extends, position_kept, position_new, renumbered_kept, all_renumbered_kept, all_appeared_append}
 
 -- ── the parts of a term ──
 
@@ -82,46 +82,47 @@ module _ (cells : List Term) (from many : ℕ) where
 
 -- ── the table ──
 
-module _ {table : List ℕ} {met used : ℕ} {xs : List ℕ} (n : Numbers table met used xs) where
+module _ {table : List (Option ℕ)} {met used : ℕ} {xs : List ℕ} (n : Numbers table met used xs) where
   pub numbers_few : met ≤ used
   numbers_few = omega (arith, n.many, n.once, count_most used xs)
 
   -- A variable that has a number appeared.
-  was_known : (x : ℕ) → x < used → (get_or table x 0 ≡ unmet → ⊥) → among x xs ≡ true
-  was_known x l h = by (among x xs) refl
+  was_known : (x k : ℕ) → x < used → get_or table x None ≡ Some k → among x xs ≡ true
+  was_known x k l h = by (among x xs) refl
     where
       by : (b : Bool) → among x xs ≡ b → among x xs ≡ true
       by true e = e
-      by false e = absurd (h (n.others x (omega (arith, l, n.room)) e))
+      by false e = let o : get_or table x None ≡ None = n.others x (omega (arith, l, n.room)) e in cc
 
-  was_other : (x : ℕ) → length table ≤ unmet → get_or table x 0 ≡ unmet → among x xs ≡ false
-  was_other x short h = by (among x xs) refl
+  was_other : (x : ℕ) → get_or table x None ≡ None → among x xs ≡ false
+  was_other x h = by (among x xs) refl
     where
       by : (b : Bool) → among x xs ≡ b → among x xs ≡ false
-      by true e = absurd (omega (arith, h, n.known x e, position_below x xs e, n.once, count_most used xs, n.room, short))
+      by true e = let k : get_or table x None ≡ Some (position x xs) = n.known x e in cc
       by false e = e
 
-  pub numbers_known : (x : ℕ) → x < used → (get_or table x 0 ≡ unmet → ⊥)
-      → Numbers table met used (appeared xs (var x)) × (get_or table x 0 ≡ position x (appeared xs (var x)))
-  numbers_known x l h =
-      let e = was_known x l h in
-      subst (λ (b : Bool). Numbers table met used (cond b xs (xs ++ (x ∷ []))) × (get_or table x 0 ≡ position x (cond b xs (xs ++ (x ∷ []))))) (sym e)
-      (n, n.known x e)
+  pub numbers_known : (x k : ℕ) → x < used → get_or table x None ≡ Some k
+      → Numbers table met used (appeared xs (var x)) × (k ≡ position x (appeared xs (var x)))
+  numbers_known x k l h =
+      let e = was_known x k l h in
+      let p : get_or table x None ≡ Some (position x xs) = n.known x e in
+      let i : k ≡ position x xs = cc in
+      subst (λ (b : Bool). Numbers table met used (cond b xs (xs ++ (x ∷ []))) × (k ≡ position x (cond b xs (xs ++ (x ∷ []))))) (sym e) (n, i)
 
   module _ (x : ℕ) (l : x < used) (e : among x xs ≡ false) where
     abbrev xs' : List ℕ
     xs' = xs ++ (x ∷ [])
 
-    new_known : (y : ℕ) (b : Bool) → eqb y x ≡ b → among y xs' ≡ true → get_or (set table x met) y 0 ≡ position y xs'
+    new_known : (y : ℕ) (b : Bool) → eqb y x ≡ b → among y xs' ≡ true → get_or (set table x (Some met)) y None ≡ Some (position y xs')
     new_known y true k h =
         let i : y ≡ x = eqb-true y x k in
-        subst (λ (z : ℕ). get_or (set table x met) z 0 ≡ position z xs') (sym i)
-        (get_or-set_same table x met 0 (omega (arith, l, n.room)) ∙ n.many ∙ sym (position_new x xs [] e))
+        subst (λ (z : ℕ). get_or (set table x (Some met)) z None ≡ Some (position z xs')) (sym i)
+        (get_or-set_same table x (Some met) None (omega (arith, l, n.room)) ∙ ap Some (n.many ∙ sym (position_new x xs [] e)))
     new_known y false k h =
         let was : among y xs ≡ true = sym (end_other y x xs (eqb-false y x k)) ∙ h in
-        get_or-set_other table x y met 0 (eqb-false y x k) ∙ n.known y was ∙ sym (position_kept y xs (x ∷ []) was)
+        get_or-set_other table x y (Some met) None (eqb-false y x k) ∙ n.known y was ∙ ap Some (sym (position_kept y xs (x ∷ []) was))
 
-    new_others : (y : ℕ) (b : Bool) → eqb y x ≡ b → y < length table → among y xs' ≡ false → get_or (set table x met) y 0 ≡ unmet
+    new_others : (y : ℕ) (b : Bool) → eqb y x ≡ b → y < length table → among y xs' ≡ false → get_or (set table x (Some met)) y None ≡ None
     new_others y true k m h =
         let both : among y xs' ≡ true = among_end y x xs ∙ ap (cond (among y xs) true) k ∙ cond_same (among y xs) in
         let z : ◌≡◌ {A = Bool} true false = sym both ∙ h in
@@ -131,32 +132,35 @@ module _ {table : List ℕ} {met used : ℕ} {xs : List ℕ} (n : Numbers table 
         cond_same true = refl
         cond_same false = refl
     new_others y false k m h =
-        get_or-set_other table x y met 0 (eqb-false y x k) ∙ n.others y m (sym (end_other y x xs (eqb-false y x k)) ∙ h)
+        get_or-set_other table x y (Some met) None (eqb-false y x k) ∙ n.others y m (sym (end_other y x xs (eqb-false y x k)) ∙ h)
 
-    new_numbers : Numbers (set table x met) (met + 1) used xs'
+    new_numbers : Numbers (set table x (Some met)) (met + 1) used xs'
     new_numbers =
         record {
-          room = omega (arith, n.room, length-set table x met);
+          room = omega (arith, n.room, length-set table x (Some met));
           many = omega (arith, n.many, length-append xs (x ∷ []));
           once = omega (arith, n.once, count_new used x xs l e, length-append xs (x ∷ []));
           known = λ y. new_known y (eqb y x) refl;
-          others = λ y m. new_others y (eqb y x) refl (omega (arith, m, length-set table x met));
+          others = λ y m. new_others y (eqb y x) refl (omega (arith, m, length-set table x (Some met)));
         }
 
   -- A variable that has none gets the next one.
-  pub numbers_new : (x : ℕ) → x < used → length table ≤ unmet → get_or table x 0 ≡ unmet
-      → Numbers (set table x met) (met + 1) used (appeared xs (var x)) × (met ≡ position x (appeared xs (var x)))
-  numbers_new x l short h =
-      let e = was_other x short h in
-      subst (λ (b : Bool). Numbers (set table x met) (met + 1) used (cond b xs (xs ++ (x ∷ []))) × (met ≡ position x (cond b xs (xs ++ (x ∷ []))))) (sym e)
+  pub numbers_new : (x : ℕ) → x < used → get_or table x None ≡ None
+      → Numbers (set table x (Some met)) (met + 1) used (appeared xs (var x)) × (met ≡ position x (appeared xs (var x)))
+  numbers_new x l h =
+      let e = was_other x h in
+      subst (λ (b : Bool). Numbers (set table x (Some met)) (met + 1) used (cond b xs (xs ++ (x ∷ []))) × (met ≡ position x (cond b xs (xs ++ (x ∷ []))))) (sym e)
       (new_numbers x l e, n.many ∙ sym (position_new x xs [] e))
 
 -- Nothing has a number yet.
-pub numbers_none : (table : List ℕ) (used : ℕ) → used ≤ length table → ((x : ℕ) → x < length table → get_or table x 0 ≡ unmet) → Numbers table 0 used []
-numbers_none table used room h =
-    record { room = room; many = refl; once = sym (count_none used); known = λ x e. absurd (true≢false (sym e)); others = λ x l e. h x l }
-
-pub numbers_replicate : (n used : ℕ) → used ≤ n → Numbers (replicate n unmet) 0 used []
-numbers_replicate n used h =
-    let l = length-replicate n unmet in
-    numbers_none (replicate n unmet) used (omega (arith, l)) (λ x m. get_or-replicate n x unmet 0 (omega (arith, l)))
+pub numbers_none : (n used : ℕ) → used ≤ n → Numbers (replicate n None) 0 used []
+numbers_none n used h =
+    let none : Option ℕ = None in
+    let l = length-replicate n none in
+    record {
+      room = omega (arith, h, l);
+      many = refl;
+      once = sym (count_none used);
+      known = λ x e. absurd (true≢false (sym e));
+      others = λ x m e. get_or-replicate n x None None (omega (arith, m, l));
+    }

@@ -10,7 +10,7 @@ use Rattle.grammar.proofs.Framed.{ask_yes, go_yes}
 use Rattle.grammar.proofs.Alone.{rules_inverse, queries_inverse}
 use Rattle.resolution.specs.Rules.{AllClosed, WellDeclared}
 use Rattle.resolution.specs.Limits.{cell_limit, step_limit}
-use Rattle.resolution.proofs.Limits.{within_limits}
+use Rattle.resolution.proofs.Within.{within_limits}
 use Rattle.resolution.proofs.Sessions.{all_kept}
 use Rattle.resolution.proofs.Steps.{Fitting, fitting_stays, fitting_opening}
 use Rattle.slips.specs.declared.faults.OpeningFault.TheVariants.{InQuery, TooManyRules, TooManyBytes}

@@ -1,5 +1,5 @@
 -- How variables are named while terms are written, and a table of the numbers that unknowns got. Assumes nothing.
-use Rattle.std.specs.Prelude.{◌≡◌, ℕ, zero, suc, ◌<◌, ◌≤◌, true, false, cond, List, length, slice_index}
+use Rattle.std.specs.Prelude.{◌≡◌, ℕ, zero, suc, ◌<◌, ◌≤◌, true, false, cond, List, length, slice_index_or, Some, None, Option}
 use Rattle.terms.specs.declared.Form.TheVariants.{Rules, Slips}
 use Rattle.terms.specs.Terms.{Term}
 use Rattle.terms.specs.Bytes.{encoding}
@@ -25,19 +25,15 @@ names_after (by_first xs) t = by_first (appeared xs t)
 
 -- ── the table ──
 
--- stands in the table for a variable that did not appear
-abbrev pub unmet : ℕ
-unmet = 65535
-
 -- how many of the numbers below n are among xs
 abbrev pub count : ℕ → List ℕ → ℕ
 count zero xs = 0
 count (suc n) xs = cond (among n xs) (suc (count n xs)) (count n xs)
 
--- the variables xs appeared, each below `used` and listed once; the table has the place of each
-pub record Numbers (table : List ℕ) (met used : ℕ) (xs : List ℕ) : Type 0 where
+-- the variables xs appeared, each below `used` and listed once; the table has the place of each, and of no other
+pub record Numbers (table : List (Option ℕ)) (met used : ℕ) (xs : List ℕ) : Type 0 where
   pub room : used ≤ length table
   pub many : met ≡ length xs
   pub once : length xs ≡ count used xs
-  pub known : (x : ℕ) → among x xs ≡ true → slice_index table x ≡ position x xs
-  pub others : (x : ℕ) → x < length table → among x xs ≡ false → slice_index table x ≡ unmet
+  pub known : (x : ℕ) → among x xs ≡ true → slice_index_or table x None ≡ Some (position x xs)
+  pub others : (x : ℕ) → x < length table → among x xs ≡ false → slice_index_or table x None ≡ None

@@ -1,6 +1,7 @@
--- The number, place, layer and steps of each refusal. Assumes nothing.
-use Rattle.std.specs.Prelude.{ℕ, Some, None, Option}
-use Rattle.grammar.specs.Refusals.{rule_number, rule_place, rule_layer, single_number, single_place, single_layer}
+-- The number, place, layer and steps of each refusal, and what is printed of it. Assumes nothing.
+use Rattle.std.specs.Prelude.{ℕ, List, ◌++◌, codes, Some, None, Option}
+use Rattle.std.specs.Fmt.{decimal}
+use Rattle.grammar.specs.Refusals.{rule_number, rule_place, rule_layer, single_number, single_place, single_layer, or_dash, fault_text}
 use Rattle.slips.specs.declared.faults.OpeningFault.{OpeningFault}
 use Rattle.slips.specs.declared.faults.OpeningFault.TheVariants.{InQuery as QueryUnfit, TooManyRules, TooManyBytes}
 use Rattle.slips.specs.declared.faults.WriteRefusal.{WriteRefusal}
@@ -28,11 +29,17 @@ opening_layer (QueryUnfit e) = Some (single_layer e)
 opening_layer TooManyRules = None
 opening_layer TooManyBytes = None
 
+abbrev pub opening_text : OpeningFault → List ℕ
+opening_text e = decimal (opening_number e) ++ codes "," ++ or_dash (opening_place e) ++ codes "," ++ or_dash (opening_layer e)
+
 -- ── hold, answer and slip ──
 
 abbrev pub write_number : WriteRefusal → ℕ
 write_number NoAnswer = 16
 write_number NoRoom = 17
+
+abbrev pub write_text : WriteRefusal → List ℕ
+write_text e = decimal (write_number e)
 
 -- ── the checker ──
 
@@ -63,6 +70,9 @@ slip_layer (NoRule p) = 4
 slip_layer (OtherGoal p) = 4
 slip_layer (NoEnd p) = 4
 
+abbrev pub slip_text : SlipFault → List ℕ
+slip_text e = fault_text (slip_number e) (slip_place e) (slip_layer e)
+
 abbrev pub check_number : CheckFault → ℕ
 check_number (InQuery e) = single_number e
 check_number (InSlip e n) = slip_number e
@@ -74,6 +84,9 @@ check_place (InSlip e n) = slip_place e
 abbrev pub check_layer : CheckFault → ℕ
 check_layer (InQuery e) = single_layer e
 check_layer (InSlip e n) = slip_layer e
+
+abbrev pub check_text : CheckFault → List ℕ
+check_text e = fault_text (check_number e) (check_place e) (check_layer e)
 
 -- the steps completed before the fault
 abbrev pub check_steps : CheckFault → Option ℕ

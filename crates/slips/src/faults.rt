@@ -1,15 +1,20 @@
 // Why a search is not opened, an answer not written, a slip not passed. specs/ has the numbers.
-ghost use Rattle.std.specs.Prelude.{◌≡◌};
+ghost use Rattle.std.specs.Prelude.{◌≡◌, Some};
 ghost use Rattle.grammar.specs.declared.faults.RuleFault.TheVariants.{Command};
 ghost use Rattle.slips.specs.declared.faults.OpeningFault.TheVariants.{InQuery as Unopened};
 ghost use Rattle.slips.specs.declared.faults.SlipFault.TheVariants.{Reading};
 ghost use Rattle.slips.specs.declared.faults.CheckFault.TheVariants.{InQuery as Unchecked};
-ghost use Rattle.slips.specs.Refusals.{opening_number, opening_place, opening_layer, write_number, slip_number, slip_place, slip_layer, check_number, check_place, check_layer, check_steps};
+ghost use Rattle.slips.specs.Refusals.{opening_number, opening_place, opening_layer, write_number, slip_number, slip_place, slip_layer, check_number, check_place, check_layer, check_steps, opening_text, write_text, slip_text, check_text};
 
 use grammar::faults::{CommandFault, RuleFault, SingleFault};
+use std::error::Error;
+use std::fmt;
+
+// The layer of slips.
+const SLIPS: u8 = 4;
 
 // Why a search is not opened.
-#[derive(Clone, Copy)]
+#[derive(Clone, Copy, PartialEq, Eq, Debug)]
 pub enum OpeningFault {
     InQuery(SingleFault),
     // more rules than a search may have
@@ -19,7 +24,7 @@ pub enum OpeningFault {
 }
 
 // Why an answer is not handed out or not written.
-#[derive(Clone, Copy)]
+#[derive(Clone, Copy, PartialEq, Eq, Debug)]
 pub enum WriteRefusal {
     // no answer stands
     NoAnswer,
@@ -28,7 +33,7 @@ pub enum WriteRefusal {
 }
 
 // A fault in a slip.
-#[derive(Clone, Copy)]
+#[derive(Clone, Copy, PartialEq, Eq, Debug)]
 pub enum SlipFault {
     // in a term, or in the operands of a step
     Reading(RuleFault),
@@ -47,7 +52,7 @@ pub enum SlipFault {
 }
 
 // Why the checker does not pass a slip.
-#[derive(Clone, Copy)]
+#[derive(Clone, Copy, PartialEq, Eq, Debug)]
 pub enum CheckFault {
     InQuery(SingleFault),
     // with the number of steps completed before it
@@ -86,6 +91,7 @@ impl From<SingleFault> for CheckFault {
     }
 }
 
+// As in the faults of reading, number, place and layer have a match each: what they share is one line of each.
 impl OpeningFault {
     pub fn number(&self) -> u8
         ensures { result ≡ opening_number self.now }
@@ -103,7 +109,7 @@ impl OpeningFault {
     {
         match *self {
             OpeningFault::InQuery(fault) => Some(fault.place()),
-            _ => None,
+            OpeningFault::TooManyRules | OpeningFault::TooManyBytes => None,
         }
     }
 
@@ -112,10 +118,25 @@ impl OpeningFault {
     {
         match *self {
             OpeningFault::InQuery(fault) => Some(fault.layer()),
-            _ => None,
+            OpeningFault::TooManyRules | OpeningFault::TooManyBytes => None,
         }
     }
 }
+
+impl fmt::Display for OpeningFault {
+    ghost output = { λ e. Some (opening_text e) };
+
+    fn fmt<W: fmt::Write>(&self, f: &mut fmt::Formatter<W>) -> fmt::Result {
+        match self {
+            OpeningFault::InQuery(fault) => write!(f, "{fault}"),
+            OpeningFault::TooManyRules | OpeningFault::TooManyBytes => {
+                write!(f, "{},-,-", self.number())
+            }
+        }
+    }
+}
+
+impl Error for OpeningFault {}
 
 impl WriteRefusal {
     pub fn number(&self) -> u8
@@ -127,6 +148,16 @@ impl WriteRefusal {
         }
     }
 }
+
+impl fmt::Display for WriteRefusal {
+    ghost output = { λ e. Some (write_text e) };
+
+    fn fmt<W: fmt::Write>(&self, f: &mut fmt::Formatter<W>) -> fmt::Result {
+        write!(f, "{}", self.number())
+    }
+}
+
+impl Error for WriteRefusal {}
 
 impl SlipFault {
     pub fn number(&self) -> u8
@@ -162,10 +193,25 @@ impl SlipFault {
     {
         match *self {
             SlipFault::Reading(fault) => fault.layer(),
-            _ => 4,
+            SlipFault::Opening
+            | SlipFault::NoStep { .. }
+            | SlipFault::TooManySteps { .. }
+            | SlipFault::NoRule { .. }
+            | SlipFault::OtherGoal { .. }
+            | SlipFault::NoEnd { .. } => SLIPS,
         }
     }
 }
+
+impl fmt::Display for SlipFault {
+    ghost output = { λ e. Some (slip_text e) };
+
+    fn fmt<W: fmt::Write>(&self, f: &mut fmt::Formatter<W>) -> fmt::Result {
+        write!(f, "{},{},{}", self.number(), self.place(), self.layer())
+    }
+}
+
+impl Error for SlipFault {}
 
 impl CheckFault {
     pub fn number(&self) -> u8
@@ -205,3 +251,16 @@ impl CheckFault {
         }
     }
 }
+
+impl fmt::Display for CheckFault {
+    ghost output = { λ e. Some (check_text e) };
+
+    fn fmt<W: fmt::Write>(&self, f: &mut fmt::Formatter<W>) -> fmt::Result {
+        match self {
+            CheckFault::InQuery(fault) => write!(f, "{fault}"),
+            CheckFault::InSlip { fault, .. } => write!(f, "{fault}"),
+        }
+    }
+}
+
+impl Error for CheckFault {}

@@ -1,11 +1,8 @@
-use Rattle.std.proofs.Common.{◌-◌, length, take, drop, vec_items, ap, ◌∙◌, rules}
-use Rattle.hexadecimal.specs.Digits.{decoded}
-use Rattle.hexadecimal.proofs.Spelled.{onward, one_more}
+use Rattle.hexadecimal.proofs.Spelled.{spelled, refused}
 use Rattle.hexadecimal.proofs.decode.Goals as goal
 
-pub loop-rest-preserved : goal.loop-rest-preserved
-loop-rest-preserved c =
-    let rest = c.loop-rest.rest.now in
-    ap (λ x. onward x (decoded (take (length rest - 2) (drop 2 rest)))) c.in_ok-push.ensures.items
-    ∙ one_more (vec_items c.loop-rest.bytes) rest c.in-Some.high c.in-Some-value.low (search rules) c.in-Some.ensures c.in-Some-value.ensures
-    ∙ c.loop-rest.invariant
+pub returns-in-Ok : goal.returns-in-Ok
+returns-in-Ok c = spelled c.args.text.now _ c.type_inv.text c.in-Ok.ensures.ok
+
+pub returns-in_default : goal.returns-in_default
+returns-in_default c = refused c.args.text.now _ c.type_inv.text c.in-Err.ensures.err c.in_default.not-OutOfMemory

@@ -1,12 +1,9 @@
 use Rattle.std.proofs.Common.{◌≡◌, ◌-◌, ◌<◌, length, Ok, sym, ap, ◌∙◌}
 use Rattle.std.specs.Option.{option_map}
 use Rattle.reading.specs.Books.{item_view, book_view}
-use Rattle.reading.proofs.Whole.{rest_count, starts, goes_on, ends}
+use Rattle.reading.proofs.Whole.{rest_count, goes_on}
 use Rattle.reading.proofs.books.count_rules.Goals as goal
 use Rattle.reading.proofs.books.count_rules.Goals.{In-Some}
-
-pub loop-init : goal.loop-init
-loop-init c = starts c.args.bytes.now (book_view c.in_ok-book.book) c.in_ok-book.ensures
 
 at_item : (c : In-Some)
     → (rest_count (book_view c.item.new.self) ≡ rest_count (book_view c.loop.book))
@@ -16,15 +13,5 @@ at_item c =
     goes_on (book_view c.loop.book) (book_view c.item.new.self) (item_view c.in-Some.field-0)
     (ap (λ o. Ok (option_map item_view o)) (sym c.in-Some.is) ∙ h.value) h.after
 
-pub loop-smaller : goal.loop-smaller
-loop-smaller c = (at_item (goal.at.loop-smaller c).In-Some).1
-
 pub loop-preserved : goal.loop-preserved
 loop-preserved c = (at_item (goal.at.loop-preserved c).In-Some).0 ∙ c.loop.invariant
-
-pub returns : goal.returns
-returns c =
-    let h = c.in_ok-item.ensures in
-    ap Ok c.rules.ensures
-    ∙ sym (ends (book_view c.loop.book) (book_view c.item.new.self) (ap (λ o. Ok (option_map item_view o)) (sym c.in_default.is) ∙ h.value) h.after)
-    ∙ c.loop.invariant

@@ -8,15 +8,15 @@ pub returns-in_err-query : goal.returns-in_err-query
 returns-in_err-query c =
     let p = err_from_is_err_and c.from_residual-in_err-query.result c.from_residual-in_err-query.ensures.1 in
     body_refused query_byte query_due query_of query_shown c.args.bytes.now (header_view c.in_ok-header.header) c.in_ok-header.ensures.value
-    query_view _ _ _ p.1 p.2 c.in_err-query.ensures.value
+    query_view _ _ _ p.1 p.2 c.in_err-query.ensures
 
 pub returns-in_err-end : goal.returns-in_err-end
 returns-in_err-end c =
     let p = err_from_is_err_and c.from_residual-in_err-end.result c.from_residual-in_err-end.ensures.1 in
     end_refused query_byte query_due query_of query_shown c.args.bytes.now (header_view c.in_ok-header.header) c.in_ok-header.ensures.value
-    query_view _ _ _ _ p.1 p.2 c.in_ok-query.ensures.value c.in_err-end.ensures
+    query_view _ _ _ _ p.1 p.2 c.in_ok-query.ensures c.in_err-end.ensures
 
 pub returns : goal.returns
 returns c =
     read query_byte query_due query_of query_shown c.args.bytes.now (header_view c.in_ok-header.header) c.in_ok-header.ensures.value
-    _ _ c.in_ok-query.ensures.value c.in_ok-end.ensures
+    _ _ c.in_ok-query.ensures c.in_ok-end.ensures

@@ -1,6 +1,6 @@
 use Rattle.std.proofs.Common.{◌≡◌, suc, ◌+◌, ◌-◌, Some, refl, ap, ◌∙◌, arith}
 use Rattle.grammar.specs.declared.commands.Command.{Command}
-use Rattle.reading.proofs.Passing.{Took, took, fewer, goes_on, reaches, finds_undeclared}
+use Rattle.reading.proofs.Passing.{Took, took, goes_on}
 use Rattle.reading.proofs.commands.Reader.terms.Goals as goal
 use Rattle.reading.proofs.commands.Reader.terms.Goals.{In-Some}
 
@@ -11,23 +11,9 @@ at_command c x e =
     let h = c.in_ok-command.ensures in
     took _ _ _ _ _ _ _ (c.in-Some.is ∙ ap Some e) h.value h.bytes h.place
 
-pub loop-due-smaller-in-Atom : goal.loop-due-smaller-in-Atom
-loop-due-smaller-in-Atom c = fewer (at_command (goal.at.loop-due-smaller-in-Atom c).In-Some _ refl)
-
 pub loop-due-preserved-in-Atom : goal.loop-due-preserved-in-Atom
 loop-due-preserved-in-Atom c =
     goes_on c.loop-due.invariant c.loop-due-test.true _ _ _ _ (at_command (goal.at.loop-due-preserved-in-Atom c).In-Some _ c.in-Atom.is) tt refl
-
-pub returns-then-number-from : goal.returns-then-number-from
-returns-then-number-from c =
-    let t = at_command (goal.at.returns-then-number-from c).In-Some _ c.in-Var.is in
-    record {
-      value = finds_undeclared c.loop-due.invariant c.loop-due-test.true _ t.front (omega (arith, c.from.ensures, c.if-number-from.true));
-      went = reaches c.loop-due.invariant c.loop-due-test.true _ _ _ t;
-    }
-
-pub loop-due-smaller-in-Var : goal.loop-due-smaller-in-Var
-loop-due-smaller-in-Var c = fewer (at_command (goal.at.loop-due-smaller-in-Var c).In-Some _ refl)
 
 pub loop-due-preserved-in-Var : goal.loop-due-preserved-in-Var
 loop-due-preserved-in-Var c =
