@@ -1,3 +1,3 @@
 pub mod Changes
-pub mod Moves
+pub mod Laid
 mod WasRead

@@ -1,5 +1,5 @@
--- Boards: rules that stand one right after the other in a table of bytes, and how their list changes. Assumes nothing.
-use Rattle.std.specs.Prelude.{◌≡◌, ℕ, suc, ◌+◌, ◌-◌, List, [], ◌∷◌, ◌++◌, length, take, drop, Some, None, Ok, Err, Option, Result, nat_le, nat_lt}
+-- How the list of rules on a board changes. Assumes nothing.
+use Rattle.std.specs.Prelude.{ℕ, suc, ◌+◌, List, [], ◌∷◌, ◌++◌, length, take, drop, Some, None, Ok, Err, Option, Result, nat_le, nat_lt}
 use Rattle.grammar.specs.Asking.{ask, go}
 use Rattle.grammar.specs.Refusals.{single_number, single_place, single_layer}
 use Rattle.grammar.specs.Singles.{rule}
@@ -8,17 +8,6 @@ use Rattle.boards.specs.declared.faults.AddFault.{AddFault}
 use Rattle.boards.specs.declared.faults.AddFault.TheVariants.{Rule, Full, Large}
 use Rattle.boards.specs.declared.faults.RemoveFault.{RemoveFault}
 use Rattle.boards.specs.declared.faults.RemoveFault.TheVariants.{Missing}
-use Rattle.books.specs.Writing.{joined}
-
--- the bytes from p on, cut at each of the ends
-abbrev pub cut : ℕ → List ℕ → List ℕ → List (List ℕ)
-cut p [] bs = []
-cut p (e ∷ es) bs = take (e - p) (drop p bs) ∷ cut e es bs
-
--- where each of the rules ends, if the first begins at p
-abbrev pub ends_from : ℕ → List (List ℕ) → List ℕ
-ends_from p [] = []
-ends_from p (t ∷ ts) = (p + length t) ∷ ends_from (p + length t) ts
 
 -- the most rules and the most bytes of a board
 abbrev pub most_rules : ℕ
@@ -27,22 +16,16 @@ most_rules = 128
 abbrev pub most_bytes : ℕ
 most_bytes = 8192
 
--- a table with these ends and bytes, of which the first n ends are in use, holds these rules, one right after the other
-abbrev pub Held : ℕ → List ℕ → List ℕ → List (List ℕ) → Type 0
-Held n ends bytes ts =
-    (length ts ≡ n)
-    × (take n ends ≡ ends_from 0 ts)
-    × (take (total ts) bytes ≡ joined ts)
-    × (length ends ≡ most_rules)
-    × (length bytes ≡ most_bytes)
-
--- the questions for a single rule; are there fewer than 128 rules, and at most 8,192 bytes with the new one?
-abbrev pub added : List (List ℕ) → List ℕ → Result (List (List ℕ)) AddFault
-added ts t =
-    go (rule t) Rule (λ r.
+-- are there fewer than 128 rules, and at most 8,192 bytes with the new one?
+abbrev pub pushed : List (List ℕ) → List ℕ → Result (List (List ℕ)) AddFault
+pushed ts t =
     ask (nat_lt (length ts) most_rules) Full
     (ask (nat_le (total ts + length t) most_bytes) Large
-    (Ok (ts ++ t ∷ []))))
+    (Ok (ts ++ t ∷ [])))
+
+-- the questions for a single rule come first
+abbrev pub added : List (List ℕ) → List ℕ → Result (List (List ℕ)) AddFault
+added ts t = go (rule t) Rule (λ r. pushed ts t)
 
 -- is there a rule with this number? Those after it move up.
 abbrev pub removed : List (List ℕ) → ℕ → Result (List (List ℕ)) RemoveFault

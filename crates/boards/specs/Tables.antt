@@ -1,12 +1,17 @@
--- What the table of a board holds. Assumes nothing.
-use Rattle.std.specs.Prelude.{ℕ, List, take}
-use Rattle.boards.specs.Changes.{cut, Held}
-use Rattle.boards.specs.declared.tables.Table.{Table}
+-- The rules in the table of a board: they stand one right after the other. Assumes nothing.
+use Rattle.std.specs.Prelude.{◌≡◌, ℕ, ◌+◌, ◌-◌, List, [], ◌∷◌, length, take, drop}
+use Rattle.books.specs.Writing.{joined}
 
--- its rules: the bytes, cut at the ends in use
-abbrev pub rules_on : Table → List (List ℕ)
-rules_on t = cut 0 (take t.count t.ends) t.bytes
+-- the bytes from p on, cut at each of the ends
+abbrev pub cut : ℕ → List ℕ → List ℕ → List (List ℕ)
+cut p [] bs = []
+cut p (e ∷ es) bs = take (e - p) (drop p bs) ∷ cut e es bs
 
--- it holds these rules, one right after the other from its first byte on
-abbrev pub Holds : Table → List (List ℕ) → Type 0
-Holds t ts = Held t.count t.ends t.bytes ts
+-- where each of the rules ends, if the first begins at p
+abbrev pub ends_from : ℕ → List (List ℕ) → List ℕ
+ends_from p [] = []
+ends_from p (t ∷ ts) = (p + length t) ∷ ends_from (p + length t) ts
+
+-- these ends and bytes are those of the rules, one right after the other
+abbrev pub Held : List ℕ → List ℕ → List (List ℕ) → Type 0
+Held ends bytes ts = (ends ≡ ends_from 0 ts) × (bytes ≡ joined ts)

@@ -1,12 +1,14 @@
 // Why rules are not put up or not taken down.
-ghost use Rattle.std.specs.Prelude.{◌≡◌};
+ghost use Rattle.std.specs.Prelude.{◌≡◌, Some};
 ghost use Rattle.boards.specs.declared.faults.AddFault.TheVariants.{Rule};
 ghost use Rattle.boards.specs.Changes.{add_number, add_place, add_layer, remove_number};
+ghost use Rattle.boards.specs.Printed.{add_text, remove_text};
 
 use grammar::faults::SingleFault;
+use std::fmt;
 
 // Why a rule is not put up on a board.
-#[derive(Clone, Copy)]
+#[derive(Clone, Copy, PartialEq, Eq, Debug)]
 pub enum AddFault {
     // it is no fit rule
     Rule(SingleFault),
@@ -17,7 +19,7 @@ pub enum AddFault {
 }
 
 // Why a rule is not taken down from a board.
-#[derive(Clone, Copy)]
+#[derive(Clone, Copy, PartialEq, Eq, Debug)]
 pub enum RemoveFault {
     // there is no rule with this number
     Missing,
@@ -31,6 +33,7 @@ impl From<SingleFault> for AddFault {
     }
 }
 
+// As in the faults of reading, number, place and layer have a match each: what they share is one line of each.
 impl AddFault {
     pub fn number(&self) -> u8
         ensures { result ≡ add_number self.now }
@@ -68,5 +71,26 @@ impl RemoveFault {
         match *self {
             RemoveFault::Missing => 26,
         }
+    }
+}
+
+// Number, place and layer, with a dash for each that there is not.
+impl fmt::Display for AddFault {
+    ghost output = { λ e. Some (add_text e) };
+
+    fn fmt<W: fmt::Write>(&self, f: &mut fmt::Formatter<W>) -> fmt::Result {
+        match *self {
+            AddFault::Rule(fault) => fault.fmt(f),
+            AddFault::Full | AddFault::Large => write!(f, "{},-,-", self.number()),
+        }
+    }
+}
+
+impl fmt::Display for RemoveFault {
+    ghost output = { λ e. Some (remove_text e) };
+
+    fn fmt<W: fmt::Write>(&self, f: &mut fmt::Formatter<W>) -> fmt::Result {
+        let number = self.number();
+        write!(f, "{number},-,-")
     }
 }

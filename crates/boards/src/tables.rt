@@ -1,118 +1,102 @@
 // The table of a board.
-ghost use Rattle.std.specs.Prelude.{◌≡◌, ℕ, suc, ◌+◌, ◌-◌, ◌<◌, ◌≤◌, [], ◌∷◌, ◌++◌, length, take, drop, IfSome, slice_index};
-ghost use Rattle.std.proofs.Math.Seq.{paste};
+ghost use Rattle.std.specs.Prelude.{◌≡◌, ℕ, ◌-◌, ◌<◌, ◌≤◌, [], ◌∷◌, length, map, slice_index};
 ghost use Rattle.std.specs.Option.{option_map};
-ghost use Rattle.std.specs.List.{between};
-ghost use Rattle.grammar.specs.Texts.{total};
-ghost use Rattle.stores.specs.Answers.{text_of};
-ghost use Rattle.boards.specs.Tables.{rules_on, Holds};
+ghost use Rattle.boards.specs.Changes.{pushed, removed, said, left};
+ghost use Rattle.stores.specs.Answers.{count_of, text_of};
 
-pub(crate) const MOST_RULES: usize = 128;
+use crate::faults::{AddFault, RemoveFault};
+use arrayvec::ArrayVec;
+use std::marker::Model;
 
-pub(crate) const MOST_BYTES: usize = 8192;
+const MOST_RULES: usize = 128;
+
+const MOST_BYTES: usize = 8192;
 
 // Rules one right after the other, and where each of them ends.
 #[derive(Drop)]
 pub(crate) struct Table {
-    count: u16,
-    ends: [u16; MOST_RULES],
-    bytes: [u8; MOST_BYTES],
+    ends: ArrayVec<u16, MOST_RULES>,
+    bytes: ArrayVec<u8, MOST_BYTES>,
+}
+
+impl Model for Table {
+    ghost use Rattle.std.specs.Prelude.{ℕ, List};
+    ghost use Rattle.boards.specs.Tables.{cut, Held};
+
+    ghost Value = { List (List ℕ) };
+
+    ghost view = { λ t. cut 0 t.ends.items t.bytes.items };
+
+    ghost invariant = { λ t. Held t.ends.items t.bytes.items (cut 0 t.ends.items t.bytes.items) };
 }
 
 impl Table {
     pub(crate) fn new() -> Table
-        ensures { Holds result [] }
+        ensures { result ≡ [] }
     {
         Table {
-            count: 0,
-            ends: [0; MOST_RULES],
-            bytes: [0; MOST_BYTES],
+            ends: ArrayVec::new(),
+            bytes: ArrayVec::new(),
         }
     }
 
     pub(crate) fn count(&self) -> u16
-        ensures { result ≡ self.now.count }
+        ensures { result ≡ count_of self.now }
     {
-        self.count
-    }
-
-    // Where a rule begins, and after the last one, where the next would.
-    pub(crate) fn begin(&self, rule: u16) -> usize
-        requires held { Holds self.now (rules_on self.now) }
-        requires there { rule ≤ self.now.count }
-        ensures { result ≡ total (take rule (rules_on self.now)) }
-    {
-        if rule == 0 {
-            0
-        } else {
-            self.ends[rule as usize - 1] as usize
-        }
+        self.ends.len() as u16
     }
 
     // The bytes of a rule.
     pub(crate) fn text(&self, rule: u16) -> Option<&[u8]>
-        requires { Holds self.now (rules_on self.now) }
-        ensures value { option_map (λ x. x.now) result ≡ text_of (rules_on self.now) rule }
-        ensures short { IfSome result (λ t. length t.now ≤ 8192) }
+        ensures { option_map (λ x. x.now) result ≡ text_of self.now rule }
     {
-        if rule >= self.count {
-            return None;
+        let ends = self.ends.as_slice();
+        let end = *ends.get(rule as usize)?;
+        Some(&self.bytes.as_slice()[begin(ends, rule) as usize..end as usize])
+    }
+
+    // Puts a rule after the others. A refusal leaves the table as it was.
+    pub(crate) fn push(&mut self, text: &[u8]) -> Result<(), AddFault>
+        ensures value { result ≡ said (pushed self.old text.now) }
+        ensures after { self.new ≡ left (pushed self.old text.now) self.old }
+    {
+        if self.ends.is_full() {
+            return Err(AddFault::Full);
         }
-        Some(&self.bytes[self.begin(rule)..self.begin(rule + 1)])
+        if self.bytes.try_extend_from_slice(text).is_err() {
+            return Err(AddFault::Large);
+        }
+        self.ends.push(self.bytes.len() as u16);
+        Ok(())
     }
 
-    // Puts a rule after the others.
-    pub(crate) fn push(&mut self, text: &[u8])
-        requires held { Holds self.old (rules_on self.old) }
-        requires few { self.old.count < 128 }
-        requires room { total (rules_on self.old) + length text.now ≤ 8192 }
-        ensures { Holds self.new (rules_on self.old ++ text.now ∷ []) }
+    // Takes a rule out; those after it move up. A refusal leaves the table as it was.
+    pub(crate) fn remove(&mut self, rule: u16) -> Result<(), RemoveFault>
+        ensures value { result ≡ said (removed self.old rule) }
+        ensures after { self.new ≡ left (removed self.old rule) self.old }
     {
-        let begin = self.begin(self.count);
-        let end = begin + text.len();
-        self.bytes[begin..end].copy_from_slice(text);
-        self.ends[self.count as usize] = end as u16;
-        self.count += 1;
-    }
-
-    // Takes a rule out; those after it move up.
-    pub(crate) fn remove(&mut self, rule: u16)
-        requires held { Holds self.old (rules_on self.old) }
-        requires there { rule < self.old.count }
-        ensures { Holds self.new (take rule (rules_on self.old) ++ drop (suc rule) (rules_on self.old)) }
-    {
-        let begin = self.begin(rule);
-        let end = self.begin(rule + 1);
-        let used = self.begin(self.count);
-        move_up(&mut self.bytes, begin, end, used);
-        take_out(
-            &mut self.ends,
-            rule as usize,
-            self.count as usize,
-            (end - begin) as u16,
-        );
-        self.count -= 1;
+        let end = self.ends.pop_at(rule as usize).ok_or(RemoveFault::Missing)?;
+        let begin = begin(self.ends.as_slice(), rule);
+        self.bytes.drain(begin as usize..end as usize);
+        lower(&mut self.ends.as_mut_slice()[rule as usize..], end - begin);
+        Ok(())
     }
 }
 
-// Moves the bytes between two places up to a place before them.
-fn move_up(bytes: &mut [u8], to: usize, from: usize, end: usize)
-    requires { (to ≤ from) × ((from ≤ end) × (end ≤ length bytes.old)) }
-    ensures { bytes.new ≡ paste bytes.old to (between from end bytes.old) (end - from) }
+// Where a rule begins: where the one before it ends.
+fn begin(ends: &[u16], rule: u16) -> u16
+    requires { rule ≤ length ends.now }
+    ensures { result ≡ slice_index (0 ∷ ends.now) rule }
 {
-    for at in from..end {
-        bytes[to + (at - from)] = bytes[at];
-    }
+    ends[..rule as usize].last().copied().unwrap_or(0)
 }
 
-// Takes an end out; those after it move up, and are so many bytes less.
-fn take_out(ends: &mut [u16], at: usize, count: usize, size: u16)
-    requires there { (at < count) × (count ≤ length ends.old) }
-    requires enough { (k : ℕ) → at < k → k < count → size ≤ slice_index ends.old k }
-    ensures before { (k : ℕ) → k < at → slice_index ends.new k ≡ slice_index ends.old k }
-    ensures moved { (k : ℕ) → at ≤ k → k + 1 < count → slice_index ends.new k ≡ slice_index ends.old (k + 1) - size }
+// Takes so many bytes off each end.
+fn lower(ends: &mut [u16], size: u16)
+    requires { (k : ℕ) → k < length ends.old → size ≤ slice_index ends.old k }
+    ensures { ends.new ≡ map (λ e. e - size) ends.old }
 {
-    for k in at + 1..count {
-        ends[k - 1] = ends[k] - size;
+    for end in ends {
+        *end -= size;
     }
 }

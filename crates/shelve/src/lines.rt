@@ -1,54 +1,14 @@
 // The lines that are printed.
-use crate::ops::{Choice, Question};
-use grammar::faults::BookFault;
+use crate::ops::Question;
+use boards::boards::Board;
 use hexadecimal::{decode, encode};
+use notation::OrDash;
 use std::alloc::{AllocError, Global};
-use stores::boards::{AddFault, Board};
 use stores::stores::Store;
 use stores::writing::write;
 
-// what fills a buffer before it is written to
+// what fills a buffer before it is written to; `replay` shows its buffers so too, and a library for one byte would be longer
 const FILLER: u8 = 0xEE;
-
-pub(crate) fn refused_book(heap: Global, fault: BookFault) -> Result<String, AllocError> {
-    let number = fault.number();
-    let place = fault.place();
-    let layer = fault.layer();
-    match fault.rule() {
-        Some(rule) => format!(in heap; "refused,{number},{place},{layer},{rule}"),
-        None => format!(in heap; "refused,{number},{place},{layer},-"),
-    }
-}
-
-pub(crate) fn chosen_line(heap: Global, choice: Choice) -> Result<String, AllocError> {
-    match choice {
-        Choice::Board => String::from_str(heap, "board"),
-        Choice::Book => String::from_str(heap, "book"),
-        Choice::Pile => String::from_str(heap, "pile"),
-    }
-}
-
-// A number, or `-` where there is none.
-fn byte_or_dash(heap: Global, number: Option<u8>) -> Result<String, AllocError> {
-    match number {
-        Some(number) => format!(in heap; "{number}"),
-        None => String::from_str(heap, "-"),
-    }
-}
-
-fn place_or_dash(heap: Global, place: Option<usize>) -> Result<String, AllocError> {
-    match place {
-        Some(place) => format!(in heap; "{place}"),
-        None => String::from_str(heap, "-"),
-    }
-}
-
-fn refused_rule(heap: Global, fault: AddFault) -> Result<String, AllocError> {
-    let number = byte_or_dash(heap, fault.number())?;
-    let place = place_or_dash(heap, fault.place())?;
-    let layer = byte_or_dash(heap, fault.layer())?;
-    format!(in heap; "add,refused,{number},{place},{layer}")
-}
 
 pub(crate) fn add_line(
     heap: Global,
@@ -60,7 +20,7 @@ pub(crate) fn add_line(
     };
     match board.add(rule.as_slice()) {
         Ok(()) => String::from_str(heap, "add,ok"),
-        Err(fault) => refused_rule(heap, fault),
+        Err(fault) => format!(in heap; "add,refused,{fault}"),
     }
 }
 
@@ -71,14 +31,11 @@ pub(crate) fn remove_line(
 ) -> Result<String, AllocError> {
     match board.remove(rule) {
         Ok(()) => String::from_str(heap, "remove,ok"),
-        Err(fault) => {
-            let number = fault.number();
-            format!(in heap; "remove,refused,{number},-,-")
-        }
+        Err(fault) => format!(in heap; "remove,refused,{fault}"),
     }
 }
 
-// What a store answers.
+// What a store answers. The questions are a closed set.
 pub(crate) fn answer_line<S: Store>(
     heap: Global,
     store: &S,
@@ -89,15 +46,12 @@ pub(crate) fn answer_line<S: Store>(
             let count = store.count();
             format!(in heap; "count,{count}")
         }
-        Question::Size(rule) => match store.size(rule) {
-            Some(size) => format!(in heap; "size,{size}"),
-            None => String::from_str(heap, "size,-"),
-        },
+        Question::Size(rule) => {
+            let size = OrDash(store.size(rule));
+            format!(in heap; "size,{size}")
+        }
         Question::Byte(rule, at) => match store.byte(rule, at) {
-            Some(byte) => {
-                let digits = encode(heap, &[byte])?;
-                format!(in heap; "byte,{digits}")
-            }
+            Some(byte) => format!(in heap; "byte,{byte:02X}"),
             None => String::from_str(heap, "byte,-"),
         },
         Question::Write(room) => write_line(heap, store, room),
@@ -111,9 +65,6 @@ fn write_line<S: Store>(heap: Global, store: &S, room: usize) -> Result<String, 
     let digits = encode(heap, out.as_slice())?;
     match result {
         Ok(length) => format!(in heap; "write,{length},{digits}"),
-        Err(fault) => {
-            let number = fault.number();
-            format!(in heap; "write,refused,{number},{digits}")
-        }
+        Err(fault) => format!(in heap; "write,refused,{fault},{digits}"),
     }
 }

@@ -4,16 +4,17 @@
 mod lines;
 mod ops;
 
-use lines::{add_line, answer_line, chosen_line, refused_book, remove_line};
+use boards::boards::Board;
+use lines::{add_line, answer_line, remove_line};
+use notation::InRule;
 use ops::{Choice, Op, Question, parse};
 use std::alloc::{AllocError, Global};
 use std::fs;
-use stores::boards::Board;
 use stores::lent::Lent;
 use stores::piles::Pile;
 use stores::rulebooks::{Image, RuleBook};
 
-// What the chosen store answers.
+// What the chosen store answers. The three stores are a closed set, of different types.
 fn asked(
     heap: Global,
     choice: Choice,
@@ -34,18 +35,18 @@ fn asked(
 // A line for each operation.
 fn shelve(rt: &HostRuntime, book: &RuleBook, text: &str) -> anyhow::Result<()> {
     let heap = rt.alloc();
-    let mut board = Board::new(heap);
+    let mut board = Board::new();
     let mut choice = Choice::Board;
     for line in text.lines() {
         let printed = match parse(line) {
-            Op::Choose(store) => {
+            Some(Op::Choose(store)) => {
                 choice = store;
-                chosen_line(heap, store)?
+                store.to_string(heap)?
             }
-            Op::Add(digits) => add_line(heap, &mut board, digits)?,
-            Op::Remove(rule) => remove_line(heap, &mut board, rule)?,
-            Op::Ask(question) => asked(heap, choice, &board, book, question)?,
-            Op::Unknown => String::from_str(heap, "unknown")?,
+            Some(Op::Add(digits)) => add_line(heap, &mut board, digits)?,
+            Some(Op::Remove(rule)) => remove_line(heap, &mut board, rule)?,
+            Some(Op::Ask(question)) => asked(heap, choice, &board, book, question)?,
+            None => String::from_str(heap, "unknown")?,
         };
         rt.println(printed)?;
     }
@@ -55,17 +56,14 @@ fn shelve(rt: &HostRuntime, book: &RuleBook, text: &str) -> anyhow::Result<()> {
 // A file that cannot be read counts as empty.
 fn main(rt: HostRuntime) -> anyhow::Result<()> {
     let heap = rt.alloc();
-    let bytes = match fs::read(&rt, "book.bin") {
-        Ok(bytes) => bytes,
-        Err(_) => Vec::new(heap),
-    };
-    let text = match fs::read_to_string(&rt, "ops.txt") {
-        Ok(text) => text,
-        Err(_) => String::new(heap),
-    };
+    let bytes = fs::read(&rt, "book.bin").unwrap_or_else(|_| Vec::new(heap));
+    let text = fs::read_to_string(&rt, "ops.txt").unwrap_or_else(|_| String::new(heap));
     let image = Image::new(bytes.as_slice());
     match RuleBook::open(&image) {
         Ok(book) => shelve(&rt, &book, text.as_str()),
-        Err(fault) => Ok(rt.println(refused_book(heap, fault)?)?),
+        Err(fault) => {
+            let fault = InRule(fault);
+            Ok(println!(rt; "refused,{fault}")?)
+        }
     }
 }

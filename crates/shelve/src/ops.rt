@@ -1,4 +1,6 @@
 // The operations that a line can ask for.
+use std::fmt;
+use std::str::FromStr;
 
 // The store that questions go to.
 #[derive(Clone, Copy)]
@@ -7,6 +9,33 @@ pub enum Choice {
     Book,
     // the board over the book
     Pile,
+}
+
+// A line that names no store.
+#[derive(Clone, Copy)]
+pub struct NoChoice;
+
+impl fmt::Display for Choice {
+    fn fmt<W: fmt::Write>(&self, f: &mut fmt::Formatter<W>) -> fmt::Result {
+        f.write_str(match *self {
+            Choice::Board => "board",
+            Choice::Book => "book",
+            Choice::Pile => "pile",
+        })
+    }
+}
+
+impl FromStr for Choice {
+    type Err = NoChoice;
+
+    fn from_str(name: &str) -> Result<Choice, NoChoice> {
+        match name {
+            "board" => Ok(Choice::Board),
+            "book" => Ok(Choice::Book),
+            "pile" => Ok(Choice::Pile),
+            _ => Err(NoChoice),
+        }
+    }
 }
 
 // What any store answers.
@@ -26,48 +55,31 @@ pub enum Op<'a> {
     Add(&'a str),
     Remove(u16),
     Ask(Question),
-    Unknown,
 }
 
-fn number(text: &str) -> Option<u16> {
-    match text.parse::<u16>() {
-        Ok(number) => Some(number),
-        Err(_) => None,
-    }
-}
-
-fn length(text: &str) -> Option<usize> {
-    match text.parse::<usize>() {
-        Ok(length) => Some(length),
-        Err(_) => None,
-    }
-}
-
-// A line that has operands.
+// A line that has operands. Operations are named by words, a closed set.
 fn with_operands(line: &str) -> Option<Op<'_>> {
     let (name, operands) = line.split_once(' ')?;
     match name {
         "add" => Some(Op::Add(operands)),
-        "remove" => Some(Op::Remove(number(operands)?)),
-        "size" => Some(Op::Ask(Question::Size(number(operands)?))),
+        "remove" => Some(Op::Remove(operands.parse().ok()?)),
+        "size" => Some(Op::Ask(Question::Size(operands.parse().ok()?))),
         "byte" => {
             let (rule, at) = operands.split_once(' ')?;
-            Some(Op::Ask(Question::Byte(number(rule)?, number(at)?)))
+            Some(Op::Ask(Question::Byte(rule.parse().ok()?, at.parse().ok()?)))
         }
-        "write" => Some(Op::Ask(Question::Write(length(operands)?))),
+        "write" => Some(Op::Ask(Question::Write(operands.parse().ok()?))),
         _ => None,
     }
 }
 
-pub(crate) fn parse(line: &str) -> Op<'_> {
-    match line {
-        "board" => Op::Choose(Choice::Board),
-        "book" => Op::Choose(Choice::Book),
-        "pile" => Op::Choose(Choice::Pile),
-        "count" => Op::Ask(Question::Count),
-        _ => match with_operands(line) {
-            Some(op) => op,
-            None => Op::Unknown,
-        },
+pub(crate) fn parse(line: &str) -> Option<Op<'_>> {
+    if line == "count" {
+        return Some(Op::Ask(Question::Count));
+    }
+    // `ok().map(Op::Choose)` was tried: the check does not cover a function of this kind passed to `map`
+    match line.parse() {
+        Ok(choice) => Some(Op::Choose(choice)),
+        Err(NoChoice) => with_operands(line),
     }
 }

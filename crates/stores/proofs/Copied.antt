@@ -1,17 +1,19 @@
 -- Copying the rules of a store. Assumes nothing.
-use Rattle.std.proofs.Common.{◌≡◌, ℕ, ◌+◌, ◌<◌, ◌≤◌, Bool, true, false, cond, ltb, leb, List, [], ◌∷◌, ◌++◌, length, get_or, take, drop, set, Some, None, Ok, Err, Result, sym, refl, ap, ◌∙◌, ap₂, add-one, arith}
-use lib.Seq.{paste, paste-suc}
-use Rattle.std.proofs.lemmas.List.{take_all, drop-set-lt}
-use Rattle.std.proofs.lemmas.Bool.{ltb-true, leb-true, le-leb, lt-leb}
+use Rattle.std.proofs.Common.{◌≡◌, ℕ, ◌+◌, ◌<◌, ◌≤◌, Bool, true, false, cond, ltb, leb, List, [], ◌∷◌, ◌++◌, length, get_or, take, drop, set, Some, None, Ok, Err, Result, sym, refl, ap, ◌∙◌, ap₂, ⊎_elim, append_assoc, add-one, arith, length-append}
+use lib.Seq.{paste, paste-zero, paste-suc}
+use Rattle.std.proofs.lemmas.List.{take_all, drop-set-lt, length_push, get_or_at, append-nil}
+use Rattle.std.proofs.lemmas.Bool.{lt-ltb, ltb-true, leb-true, le-leb, lt-leb, cases_lt}
 use Rattle.grammar.specs.Asking.{ask}
 use Rattle.grammar.specs.Items.{most_rules, most_bytes}
+use Rattle.grammar.proofs.Fitting.{fit_at, fit_short}
 use Rattle.grammar.proofs.Framed.{asked}
+use Rattle.grammar.specs.Texts.{all_fit}
 use Rattle.books.specs.declared.faults.WriteFault.{WriteFault}
 use Rattle.books.specs.declared.faults.WriteFault.TheVariants.{Rules, Bytes, Room}
 use Rattle.books.specs.Writing.{book_of, book_size, sized, fitted, written, filled, after_writing}
 use Rattle.books.proofs.Written.{book_length, joined_more, total_more, total_part, laid}
-use Rattle.stores.specs.Answers.{count_of, size_of, byte_at, byte_of}
-use Rattle.stores.proofs.Piled.{there}
+use Rattle.stores.specs.Answers.{count_of, size_of, byte_at, byte_of, bytes_of}
+use Rattle.stores.proofs.Piled.{there, not_there}
 
 -- ── what is asked of a rule that is there ──
 
@@ -26,13 +28,56 @@ module _ (ts : List (List ℕ)) (i : ℕ) (l : i < count_of ts) where
       by true q e = (ltb-true j (length (get_or ts i [])) q, (let same : b ≡ get_or (get_or ts i []) j 0 = cc in same))
       by false q e = let z : ◌≡◌ {A = ℕ} 0 1 = cc in absurd (omega arith)
 
--- a byte more of a rule
-pub byte_more : (out now t : List ℕ) (place at byte : ℕ) → now ≡ paste out place t at → place + length t ≤ length out → at < length t → byte ≡ get_or t at 0
-    → set now (place + at) byte ≡ paste out place t (at + 1)
-byte_more out now t place at byte e room l b =
-    ap₂ (λ o x. set o (place + at) x) e b
-    ∙ paste-suc out place t at 0 (omega arith) l
-    ∙ ap (paste out place t) (sym (add-one at))
+-- a byte of a fit rule is one of the first 517
+pub byte_short : (ts : List (List ℕ)) (i j b : ℕ) → all_fit ts ≡ true → Some b ≡ byte_of ts i j → j < 517
+byte_short ts i j b f e = ⊎_elim inside outside (cases_lt i (count_of ts))
+  where
+    inside : i < count_of ts → j < 517
+    inside l = omega (arith, (byte_some ts i l j b e).0, fit_short (get_or ts i []) (fit_at ts i f (omega arith)))
+
+    outside : count_of ts ≤ i → j < 517
+    outside l = let both = e ∙ not_there (byte_at j) ts i l in let z : ◌≡◌ {A = ℕ} 0 1 = cc in absurd (omega arith)
+
+-- the bytes of a rule that is there
+pub bytes_there : (ts : List (List ℕ)) (i : ℕ) → i < count_of ts → bytes_of ts i ≡ get_or ts i []
+bytes_there ts i l = ap (λ b. cond b (get_or ts i []) []) (lt-ltb i (count_of ts) l)
+
+-- as far as a rule t was copied to a place: the bytes in front are there, and those behind are left
+pub record Copying (out t : List ℕ) (place : ℕ) (front behind : List ℕ) (end : ℕ) (now : List ℕ) : Type 0 where
+  pub parts : t ≡ front ++ behind
+  pub reached : end ≡ place + length front
+  pub laid : now ≡ paste out place t (length front)
+
+pub copying_none : (out t behind : List ℕ) (place : ℕ) → behind ≡ t → Copying out t place [] behind place out
+copying_none out t behind place e = record { parts = sym e; reached = omega arith; laid = paste-zero out place t }
+
+module _ (out t : List ℕ) (place : ℕ) (front behind : List ℕ) (end : ℕ) (now : List ℕ) (c : Copying out t place front behind end now) where
+  module _ (x : ℕ) (rest : List ℕ) (e : behind ≡ x ∷ rest) where
+    pub copying_inside : place + length t ≤ length out → end < length out
+    copying_inside room = omega (arith, c.reached, ap length c.parts, length-append front behind, ap length e)
+
+    pub copying_more : place + length t ≤ length out → Copying out t place (front ++ x ∷ []) rest (end + 1) (set now end x)
+    copying_more room =
+        let whole : t ≡ front ++ x ∷ rest = c.parts ∙ ap (λ l. front ++ l) e in
+        let there : length front < length t = omega (arith, ap length whole, length-append front (x ∷ rest)) in
+        let long : length front + 1 ≡ length (front ++ x ∷ []) = sym (length_push front x) in
+        let read : x ≡ get_or t (length front) 0 = sym (ap (λ l. get_or l (length front) 0) whole ∙ get_or_at front x rest 0 (length front) refl) in
+        record {
+          parts = whole ∙ sym (append_assoc front (x ∷ []) rest);
+          reached = omega (arith, c.reached, long);
+          laid =
+              ap₂ (λ n y. set now n y) c.reached read
+              ∙ ap (λ o. set o (place + length front) (get_or t (length front) 0)) c.laid
+              ∙ paste-suc out place t (length front) 0 (omega arith) there
+              ∙ ap (paste out place t) (sym (add-one (length front)) ∙ long);
+        }
+
+  pub copied : behind ≡ [] → (end ≡ place + length t) × (now ≡ paste out place t (length t))
+  copied e =
+      let whole : t ≡ front = c.parts ∙ ap (λ l. front ++ l) e ∙ append-nil front in (
+        c.reached ∙ ap (λ l. place + length l) (sym whole),
+        c.laid ∙ ap (λ l. paste out place t (length l)) (sym whole),
+      )
 
 -- ── the length of the book ──
 

@@ -1,6 +1,6 @@
 -- A book read item by item, with the places of its rules. Assumes nothing.
-use Rattle.std.proofs.Common.{◌≡◌, ℕ, suc, ◌+◌, ◌-◌, ◌<◌, ◌≤◌, max, Bool, true, false, leb, List, [], ◌∷◌, ◌++◌, length, take, drop, set, Some, None, Ok, Err, Result, sym, refl, ap, ◌∙◌, ap₂, append_assoc, append-nil, add-zero, arith, length-drop, length-set}
-use Rattle.std.proofs.lemmas.List.{drop-drop, take_more_set}
+use Rattle.std.proofs.Common.{◌≡◌, ℕ, suc, ◌+◌, ◌-◌, ◌<◌, ◌≤◌, max, Bool, true, false, leb, List, [], ◌∷◌, ◌++◌, length, drop, Some, None, Ok, Err, Result, sym, refl, ap, ◌∙◌, ap₂, append_assoc, append-nil, arith, length-drop}
+use Rattle.std.proofs.lemmas.List.{drop-drop, length_push}
 use Rattle.std.proofs.lemmas.Bool.{leb-true}
 use Rattle.grammar.specs.declared.faults.BookFault.{BookFault}
 use Rattle.grammar.specs.declared.faults.BookFault.TheVariants.{TooLong}
@@ -92,26 +92,27 @@ went b d v a e k =
 
 -- ── the whole ──
 
--- as far as the book was read
+-- as far as the book was read, with the places of its rules so far
 pub record Reading (bs : List ℕ) (b : BookView) (places : List ℕ) : Type 0 where
-  pub rest : rest_places b (take b.rules places) ≡ seen (rule_places 0) (book bs)
+  pub rest : rest_places b places ≡ seen (rule_places 0) (book bs)
   pub same : b.bytes ≡ bs
   pub short : length bs ≤ most_bytes
   pub few : b.rules ≤ most_rules
-  pub whole : length places ≡ most_rules
+  pub counted : length places ≡ b.rules
 
-pub begin : (bs : List ℕ) (b : BookView) (places : List ℕ) → length places ≡ most_rules → Ok b ≡ opened bs → Reading bs b places
-begin bs b places w e = by (leb (length bs) most_bytes) refl e
+pub begin : (bs : List ℕ) (b : BookView) (places : List ℕ) → places ≡ [] → Ok b ≡ opened bs → Reading bs b places
+begin bs b places n e = by (leb (length bs) most_bytes) refl e
   where
     by : (t : Bool) → leb (length bs) most_bytes ≡ t → Ok b ≡ ask t TooLong (Ok (record { bytes = bs; place = 0; rules = 0 })) → Reading bs b places
     by true q e =
         let o : b ≡ record { bytes = bs; place = 0; rules = 0 } = cc in
+        let none : b.rules ≡ 0 = ap (λ x. x.rules) o in
         record {
-          rest = ap (λ x. rest_places x (take x.rules places)) o ∙ ap (λ t. seen (rule_places 0) (ask t TooLong (items_past 0 0 0 bs))) (sym q);
+          rest = ap₂ rest_places o n ∙ ap (λ t. seen (rule_places 0) (ask t TooLong (items_past 0 0 0 bs))) (sym q);
           same = ap (λ x. x.bytes) o;
           short = leb-true (length bs) most_bytes q;
-          few = omega (arith, ap (λ x. x.rules) o);
-          whole = w;
+          few = omega (arith, none);
+          counted = ap length n ∙ sym none;
         }
     by false q e = let z : ◌≡◌ {A = ℕ} 0 1 = cc in absurd (omega arith)
 
@@ -126,54 +127,43 @@ module _ (bs : List ℕ) (b d : BookView) (places : List ℕ) (v : ItemView) (r 
   -- a world
   pub world_more : adds v ≡ [] → item_count v ≡ 0 → Reading bs d places
   world_more n c =
-      let stay : d.rules ≡ b.rules = omega (arith, w.rules) in
       record {
-        rest =
-            ap (λ m. rest_places d (take m places)) stay
-            ∙ ap (rest_places d) (sym (append-nil (take b.rules places)))
-            ∙ ap (λ l. rest_places d (take b.rules places ++ l)) (sym n)
-            ∙ w.rest (take b.rules places) ∙ r.rest;
+        rest = ap (rest_places d) (sym (append-nil places) ∙ ap (λ l. places ++ l) (sym n)) ∙ w.rest places ∙ r.rest;
         same = w.bytes ∙ r.same;
         short = r.short;
-        few = omega (arith, r.few);
-        whole = r.whole;
+        few = omega (arith, w.rules, r.few);
+        counted = omega (arith, w.rules, r.counted);
       }
 
   -- a rule
-  pub rule_more : (k x : ℕ) → adds v ≡ x ∷ [] → item_count v ≡ 1 → k ≡ b.rules → Reading bs d (set places k x)
-  rule_more k x n c e =
-      let more : d.rules ≡ b.rules + 1 = w.rules ∙ ap (λ m. b.rules + m) c in
-      let few : b.rules + 1 ≤ most_rules = omega (arith, w.room, r.few) in
-      let front : take d.rules (set places k x) ≡ take b.rules places ++ adds v =
-      ap₂ (λ m j. take m (set places j x)) more e ∙ take_more_set places b.rules x (omega (arith, r.whole)) ∙ ap (λ l. take b.rules places ++ l) (sym n) in
+  pub rule_more : (x : ℕ) (after : List ℕ) → adds v ≡ x ∷ [] → item_count v ≡ 1 → after ≡ places ++ x ∷ [] → Reading bs d after
+  rule_more x after n c e =
       record {
-        rest = ap (rest_places d) front ∙ w.rest (take b.rules places) ∙ r.rest;
+        rest = ap (rest_places d) (e ∙ ap (λ l. places ++ l) (sym n)) ∙ w.rest places ∙ r.rest;
         same = w.bytes ∙ r.same;
         short = r.short;
-        few = omega arith;
-        whole = length-set places k x ∙ r.whole;
+        few = omega (arith, w.rules, w.room, r.few);
+        counted = omega (arith, ap length e, length_push places x, w.rules, r.counted);
       }
 
+  -- there is a place for it
+  pub room_left : item_count v ≡ 1 → length places < most_rules
+  room_left c = omega (arith, w.room, r.few, r.counted)
+
 -- no item is left
-row_ends : (n p : ℕ) (bs : List ℕ) → Ok None ≡ shown_first p (first_item n p bs) → (items_past n 0 p bs ≡ Ok []) × (counted (first_item n p bs) ≡ 0)
-row_ends n p [] e = (refl, refl)
+row_ends : (n p : ℕ) (bs : List ℕ) → Ok None ≡ shown_first p (first_item n p bs) → items_past n 0 p bs ≡ Ok []
+row_ends n p [] e = refl
 row_ends n p (b ∷ bs) e = by (item n p b bs) e
   where
-    by : (r : Result (Item × ℕ) BookFault) → Ok None ≡ shown_first p (go r (λ e. e) (λ i. Ok (Some i))) → (items_past n 0 p (b ∷ bs) ≡ Ok []) × (counted (first_item n p (b ∷ bs)) ≡ 0)
+    by : (r : Result (Item × ℕ) BookFault) → Ok None ≡ shown_first p (go r (λ e. e) (λ i. Ok (Some i))) → items_past n 0 p (b ∷ bs) ≡ Ok []
     by (Ok x) e = let z : ◌≡◌ {A = ℕ} 0 1 = cc in absurd (omega arith)
     by (Err x) e = let z : ◌≡◌ {A = ℕ} 0 1 = cc in absurd (omega arith)
 
-pub ends : (bs : List ℕ) (b d : BookView) (places : List ℕ) → Reading bs b places → Ok None ≡ shown_first b.place (next_of b) → d ≡ after_item b
-    → (Ok (take d.rules places) ≡ seen (rule_places 0) (book bs)) × (d.rules ≤ most_rules)
-ends bs b d places r e k =
-    let x = row_ends b.rules b.place (drop b.place b.bytes) e in
-    let stay : d.rules ≡ b.rules = ap (λ y. y.rules) k ∙ ap (λ m. b.rules + m) x.1 ∙ add-zero b.rules in (
-      ap (λ m. Ok (take m places)) stay
-          ∙ ap Ok (sym (append-nil (take b.rules places)))
-          ∙ sym (ap (seen (λ is. take b.rules places ++ rule_places b.place is)) x.0)
-          ∙ r.rest,
-      omega (arith, r.few),
-    )
+pub ends : (bs : List ℕ) (b : BookView) (places : List ℕ) → Reading bs b places → Ok None ≡ shown_first b.place (next_of b) → Ok places ≡ seen (rule_places 0) (book bs)
+ends bs b places r e =
+    ap Ok (sym (append-nil places))
+    ∙ sym (ap (seen (λ is. places ++ rule_places b.place is)) (row_ends b.rules b.place (drop b.place b.bytes) e))
+    ∙ r.rest
 
 row_fails : (n p : ℕ) (bs : List ℕ) (x : BookFault) → Err x ≡ shown_first p (first_item n p bs) → items_past n 0 p bs ≡ Err x
 row_fails n p [] x e = let z : ◌≡◌ {A = ℕ} 0 1 = cc in absurd (omega arith)
@@ -192,5 +182,5 @@ module _ {T : Type 0} (f : T → List ℕ) (r : Result T BookFault) (x y : BookF
   pub refused_later : (bs : List ℕ) (b : BookView) (places : List ℕ) → Reading bs b places → Err y ≡ shown_first b.place (next_of b) → seen f r ≡ seen (rule_places 0) (book bs)
   refused_later bs b places r e =
       ap (seen f) (i ∙ ap Err j)
-      ∙ sym (ap (seen (λ is. take b.rules places ++ rule_places b.place is)) (row_fails b.rules b.place (drop b.place b.bytes) y e))
+      ∙ sym (ap (seen (λ is. places ++ rule_places b.place is)) (row_fails b.rules b.place (drop b.place b.bytes) y e))
       ∙ r.rest

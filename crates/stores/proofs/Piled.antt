@@ -1,8 +1,10 @@
 -- What one list after another answers. Assumes nothing.
-use Rattle.std.proofs.Common.{◌≡◌, ℕ, ◌+◌, ◌-◌, ◌<◌, ◌≤◌, min, cond, List, [], ◌++◌, length, get_or, None, Option, sym, refl, ap, ◌∙◌, ⊎_elim, arith, length-append}
+use Rattle.std.proofs.Common.{◌≡◌, ℕ, ◌+◌, ◌-◌, ◌<◌, ◌≤◌, min, cond, Bool, true, false, ltb, List, [], ◌++◌, length, get_or, Some, None, Option, sym, refl, ap, ◌∙◌, ⊎_elim, arith, length-append}
 use Rattle.std.proofs.lemmas.List.{get_or_append_left, get_or-append_right}
-use Rattle.std.proofs.lemmas.Bool.{lt-ltb, le-ltb, cases_lt}
+use Rattle.std.proofs.lemmas.Bool.{lt-ltb, le-ltb, ltb-true, ltb-false, cases_lt}
 use Rattle.stores.specs.Answers.{no_number, count_of, of_rule}
+use Rattle.stores.specs.Sides.{side_of}
+use Rattle.stores.specs.declared.piles.Side.TheVariants.{Upper, Lower}
 
 -- a rule that is there, and one that is not
 pub there : {X : Type 0} (ask : List ℕ → Option X) (ts : List (List ℕ)) (i : ℕ) → i < count_of ts → of_rule ask ts i ≡ ask (get_or ts i [])
@@ -44,3 +46,12 @@ module _ (ts us : List (List ℕ)) where
         outside h =
             let long = length-append ts us in
             not_there ask us (i - count_of ts) (omega arith) ∙ sym (not_there ask (ts ++ us) i (omega arith))
+
+-- the lower store has the rule
+pub below : (n i j : ℕ) → Some (Lower j) ≡ side_of n i → (n ≤ i) × (i < no_number) × (j ≡ i - n)
+below n i j e = by (ltb i no_number) (ltb i n) refl refl e
+  where
+    by : (s t : Bool) → ltb i no_number ≡ s → ltb i n ≡ t → Some (Lower j) ≡ cond s (Some (cond t (Upper i) (Lower (i - n)))) None → (n ≤ i) × (i < no_number) × (j ≡ i - n)
+    by true false p q e = (ltb-false i n q, ltb-true i no_number p, (let same : j ≡ i - n = cc in same))
+    by true true p q e = let z : ◌≡◌ {A = ℕ} 0 1 = cc in absurd (omega arith)
+    by false t p q e = let z : ◌≡◌ {A = ℕ} 0 1 = cc in absurd (omega arith)

@@ -1,5 +1,5 @@
 -- What a store answers, from the list of rules that it means. Assumes nothing.
-use Rattle.std.specs.Prelude.{ℕ, min, cond, List, [], length, Some, None, Option, nat_lt, slice_index, slice_index_or}
+use Rattle.std.specs.Prelude.{ℕ, min, cond, List, [], length, drop, Some, None, Option, nat_lt, slice_index, slice_index_or}
 
 -- this number is no rule's
 abbrev pub no_number : ℕ
@@ -27,3 +27,11 @@ byte_at j t = cond (nat_lt j (length t)) (Some (slice_index t j)) None
 
 abbrev pub byte_of : List (List ℕ) → ℕ → ℕ → Option ℕ
 byte_of ts i j = of_rule (byte_at j) ts i
+
+-- all its bytes, none where there is no such rule
+abbrev pub bytes_of : List (List ℕ) → ℕ → List ℕ
+bytes_of ts i = cond (nat_lt i (count_of ts)) (slice_index_or ts i []) []
+
+-- those from j on
+abbrev pub bytes_from : List (List ℕ) → ℕ → ℕ → List ℕ
+bytes_from ts i j = drop j (bytes_of ts i)

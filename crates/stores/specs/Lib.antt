@@ -1,5 +1,4 @@
 pub mod Answers
 pub mod Begun
 pub mod Fitting
-pub mod Lists
-pub mod Changes
+pub mod Sides

@@ -22,6 +22,7 @@ impl<'a, S: Store> Store for Lent<'a, S> {
 
     ghost fit = { λ l. S.Store.fit l.store.now };
 
+    // A store that stands for another hands each question on; so do the makes to their tables.
     fn count(&self) -> u16 {
         self.store.count()
     }

@@ -1,6 +1,8 @@
 // One store over another.
 ghost use Rattle.std.specs.Prelude.{◌≡◌, ◌++◌};
+ghost use Rattle.stores.specs.Answers.{count_of};
 ghost use Rattle.stores.specs.Fitting.{fit_append};
+ghost use Rattle.stores.specs.Sides.{side_of};
 
 use crate::stores::Store;
 
@@ -11,12 +13,33 @@ pub struct Pile<U, L> {
     lower: L,
 }
 
+// The store that has a rule, and the rule's number there.
+#[derive(Clone, Copy)]
+enum Side {
+    Upper(u16),
+    Lower(u16),
+}
+
 impl<U: Store, L: Store> Pile<U, L> {
     pub fn new(upper: U, lower: L) -> Self
         ensures upper { result.upper ≡ upper }
         ensures lower { result.lower ≡ lower }
     {
         Pile { upper, lower }
+    }
+
+    fn side(&self, rule: u16) -> Option<Side>
+        ensures { result ≡ side_of (count_of (U.Store.rules self.now.upper)) rule }
+    {
+        if rule == u16::MAX {
+            return None;
+        }
+        let above = self.upper.count();
+        if rule < above {
+            Some(Side::Upper(rule))
+        } else {
+            Some(Side::Lower(rule - above))
+        }
     }
 }
 
@@ -50,26 +73,16 @@ impl<U: Store, L: Store> Store for Pile<U, L> {
     }
 
     fn size(&self, rule: u16) -> Option<u16> {
-        if rule == u16::MAX {
-            return None;
-        }
-        let above = self.upper.count();
-        if rule < above {
-            self.upper.size(rule)
-        } else {
-            self.lower.size(rule - above)
+        match self.side(rule)? {
+            Side::Upper(rule) => self.upper.size(rule),
+            Side::Lower(rule) => self.lower.size(rule),
         }
     }
 
     fn byte(&self, rule: u16, at: u16) -> Option<u8> {
-        if rule == u16::MAX {
-            return None;
-        }
-        let above = self.upper.count();
-        if rule < above {
-            self.upper.byte(rule, at)
-        } else {
-            self.lower.byte(rule - above, at)
+        match self.side(rule)? {
+            Side::Upper(rule) => self.upper.byte(rule, at),
+            Side::Lower(rule) => self.lower.byte(rule, at),
         }
     }
 }

@@ -1,7 +1,7 @@
 // The interface of a store.
 ghost use Rattle.std.specs.Prelude.{◌≡◌, ℕ, true, List};
 ghost use Rattle.grammar.specs.Texts.{all_fit};
-ghost use Rattle.stores.specs.Answers.{count_of, size_of, byte_at, byte_of};
+ghost use Rattle.stores.specs.Answers.{count_of, size_of, byte_of};
 
 // A list of rules in bytes. An implementation says which list it means, that each rule of it passes the questions
 // for a single rule, and answers these three questions.
@@ -21,11 +21,4 @@ pub trait Store {
     // A byte of a rule.
     fn byte(&self, rule: u16, at: u16) -> Option<u8>
         ensures { result ≡ byte_of (rules self.now) rule at };
-}
-
-// A byte of a rule's bytes.
-pub(crate) fn byte_in(text: &[u8], at: u16) -> Option<u8>
-    ensures { result ≡ byte_at at text.now }
-{
-    text.get(at as usize).copied()
 }

@@ -4,16 +4,11 @@ ghost use Rattle.std.proofs.Math.Seq.{paste};
 ghost use Rattle.books.specs.Writing.{sized, book_size, written, after_writing, book_of};
 ghost use Rattle.stores.specs.Answers.{count_of};
 
+use crate::rule_bytes::RuleBytes;
 use crate::stores::Store;
 use books::faults::WriteFault;
-
-const MOST_RULES: u16 = 1024;
-
-const MOST_BYTES: usize = 16384;
-// the first byte of a world, and how many bytes it has
-const WORLD: u8 = 0x11;
-
-const WORLD_SIZE: usize = 2;
+use grammar::bytes::WORLD;
+use grammar::limits::{MOST_BYTES, MOST_RULES, WORLD_SIZE};
 
 // How many bytes the book has.
 fn book_length<S: Store>(store: &S) -> Result<usize, WriteFault>
@@ -33,19 +28,19 @@ fn book_length<S: Store>(store: &S) -> Result<usize, WriteFault>
     Ok(length)
 }
 
-// Copies a rule to a place of the buffer, and returns the place after it.
+// Copies a rule to a place of the buffer, and returns the place after it, which is what `end` counts.
 fn copy_rule<S: Store>(store: &S, rule: u16, out: &mut [u8], place: usize) -> usize
     requires there { rule < count_of (S.Store.rules store.now) }
     requires room { place + length (slice_index_or (S.Store.rules store.now) rule []) ≤ length out.old }
     ensures value { result ≡ place + length (slice_index_or (S.Store.rules store.now) rule []) }
     ensures after { out.new ≡ paste out.old place (slice_index_or (S.Store.rules store.now) rule []) (length (slice_index_or (S.Store.rules store.now) rule [])) }
 {
-    let mut at: u16 = 0;
-    while let Some(byte) = store.byte(rule, at) {
-        out[place + at as usize] = byte;
-        at += 1;
+    let mut end = place;
+    for byte in RuleBytes::new(store, rule) {
+        out[end] = byte;
+        end += 1;
     }
-    place + at as usize
+    end
 }
 
 // Writes the world and the rules at the start of the buffer.

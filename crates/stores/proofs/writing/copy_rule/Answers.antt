@@ -1,25 +1,31 @@
-use Rattle.std.proofs.Common.{◌+◌, ◌<◌, ◌≤◌, [], length, get_or, arith, rules}
-use lib.Seq.{paste-zero}
-use Rattle.grammar.proofs.Fitting.{fit_at, fit_short}
-use Rattle.stores.proofs.Copied.{byte_some, byte_more}
+use Rattle.std.proofs.Common.{[], get_or, ap, ◌∙◌, arith, rules}
+use Rattle.stores.specs.Answers.{bytes_from}
+use Rattle.stores.proofs.Copied.{bytes_there, copying_none, copying_inside, copying_more, copied}
 use Rattle.stores.proofs.writing.copy_rule.Goals as goal
 
 pub loop-byte-init : goal.loop-byte-init
-loop-byte-init g c = (omega arith, paste-zero c.args.out.now c.args.place (get_or (g.S.Store.rules c.args.store.now) c.args.rule []))
-
-pub overflow_add-at : goal.overflow_add-at
-overflow_add-at g c =
+loop-byte-init g c =
     let ts = g.S.Store.rules c.args.store.now in
-    let b = byte_some ts c.args.rule c.requires.there c.loop-byte.at c.in-Some.byte c.in-Some.ensures in
-    let short : length (get_or ts c.args.rule []) ≤ 517 = fit_short (get_or ts c.args.rule []) (fit_at ts c.args.rule (g.S.Store.fit c.args.store.now) (omega (arith, c.requires.there))) in
-    let low : c.loop-byte.at + 1 < 65536 = omega (arith, b.0) in
+    copying_none c.args.out.now (get_or ts c.args.rule []) _ c.args.place
+    (ap (λ b. bytes_from (g.S.Store.rules b.store.now) b.rule b.at) c.into_iter-byte-iterator.ensures.into_iter_gives
+    ∙ c.new-byte-items.ensures ∙ bytes_there ts c.args.rule c.requires.there)
+
+pub bounds-out-end : goal.bounds-out-end
+bounds-out-end g c =
+    let inside = copying_inside c.args.out.now _ c.args.place _ _ c.loop-byte.end c.loop-byte.out c.loop-byte.invariant _ _ c.in-Some.ensures.steps c.requires.room in
+    omega (arith, inside, c.loop-byte.auto.out)
+
+pub overflow_add-end : goal.overflow_add-end
+overflow_add-end g c =
+    let inside = copying_inside c.args.out.now _ c.args.place _ _ c.loop-byte.end c.loop-byte.out c.loop-byte.invariant _ _ c.in-Some.ensures.steps c.requires.room in
     search rules
 
 pub loop-byte-preserved : goal.loop-byte-preserved
 loop-byte-preserved g c =
-    let ts = g.S.Store.rules c.args.store.now in
-    let t = get_or ts c.args.rule [] in
-    let b = byte_some ts c.args.rule c.requires.there c.loop-byte.at c.in-Some.byte c.in-Some.ensures in (
-      omega (arith, b.0),
-      byte_more c.args.out.now c.loop-byte.out t c.args.place c.loop-byte.at c.in-Some.byte c.loop-byte.invariant.1 c.requires.room b.0 b.1,
-    )
+    copying_more c.args.out.now _ c.args.place _ _ c.loop-byte.end c.loop-byte.out c.loop-byte.invariant c.in-Some.byte _ c.in-Some.ensures.steps c.requires.room
+
+pub returns-clause-value : goal.returns-clause-value
+returns-clause-value g c = (copied c.args.out.now _ c.args.place _ _ c.loop-byte.end c.loop-byte.out c.loop-byte.invariant c.in-None.ensures.steps.0).0
+
+pub returns-clause-after : goal.returns-clause-after
+returns-clause-after g c = (copied c.args.out.now _ c.args.place _ _ c.loop-byte.end c.loop-byte.out c.loop-byte.invariant c.in-None.ensures.steps.0).1

@@ -1,11 +1,9 @@
-use Rattle.std.proofs.Common.{◌≡◌, ◌-◌, ◌≤◌, [], length, get_or}
-use lib.Seq.{paste}
+use Rattle.std.proofs.Common.{[], get_or}
+use Rattle.stores.specs.Answers.{bytes_from}
+use Rattle.stores.proofs.Copied.{Copying}
 use Rattle.stores.proofs.writing.copy_rule.Given as goal
 
 abbrev pub invariant-loop-byte : goal.invariant-loop-byte
 invariant-loop-byte g l =
-    (l.at ≤ length (get_or (g.S.Store.rules l.store) l.rule []))
-    × (l.out ≡ paste l.initial.out l.place (get_or (g.S.Store.rules l.store) l.rule []) l.at)
-
-abbrev pub decreases-loop-byte : goal.decreases-loop-byte
-decreases-loop-byte g l = length (get_or (g.S.Store.rules l.store) l.rule []) - l.at
+    let it = l.byte-iterator in
+    Copying l.initial.out (get_or (g.S.Store.rules l.store) l.rule []) l.place l.yielded (bytes_from (g.S.Store.rules it.store.now) it.rule it.at) l.end l.out

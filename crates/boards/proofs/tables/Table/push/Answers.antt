@@ -1,41 +1,86 @@
-use Rattle.std.proofs.Common.{◌≡◌, ◌+◌, ◌-◌, ◌≤◌, ◌++◌, length, take, refl, ap, ◌∙◌, ap₂, arith, rules}
-use borrow.Rule.Slice.PartMut.{put_mid}
-use lib.Seq.{length-paste}
-use Rattle.std.proofs.lemmas.Slice.{put_mid-paste, take-put_mid}
-use Rattle.grammar.specs.Texts.{total}
-use Rattle.boards.proofs.Changes.{all_held, push_held}
-use Rattle.boards.specs.Tables.{rules_on}
+use Rattle.std.proofs.Common.{◌≡◌, ℕ, ◌+◌, ◌<◌, ◌≤◌, true, false, [], ◌∷◌, ◌++◌, length, Ok, Err, is_ok, OnOk, OnErr, Result, ◌≢◌, ◌==◌, sym, ap, ◌∙◌, subst, ⊎_elim, arith}
+use Rattle.std.proofs.lemmas.Bool.{cases_lt, eqb-true, eqb-false}
+use Rattle.boards.specs.declared.faults.AddFault.TheVariants.{Full, Large}
+use Rattle.boards.specs.Changes.{pushed}
+use Rattle.boards.specs.Tables.{cut, Held}
+use Rattle.boards.proofs.Changes.{Comes, is_full, is_large, put_up}
+use Rattle.boards.proofs.Laid.{cut_held, held_again, count_held, size_held, push_held}
 use Rattle.boards.proofs.tables.Table.push.Goals as goal
-use Rattle.boards.proofs.tables.Table.push.Goals.{After-begin-begin}
+use Rattle.boards.proofs.tables.Table.push.Goals.{Then-is_full, Then-is_err, After-push}
 
--- the rule begins where the others end, and there is room for it
-begins : (c : After-begin-begin) → c.begin-begin.result ≡ total (rules_on c.args.self.now)
-begins c = let t = c.args.self.now in c.begin-begin.ensures ∙ all_held t.count t.ends t.bytes (rules_on t) c.requires.held
+full : (c : Then-is_full) → Comes (pushed c.args.self.now c.args.text.now) c.args.self.now (Err Full) c.args.self.now
+full c =
+    let t = c.self.inside in
+    let h = subst (Held t.ends.items t.bytes.items) c.self.view_is c.self.invariant in
+    let all : length t.ends.items ≡ 128 = eqb-true (length t.ends.items) 128 (sym c.if-is_full.ensures.value) in
+    is_full c.args.self.now c.args.text.now (omega (arith, count_held t.ends.items t.bytes.items c.args.self.now h, all))
 
-room : (c : After-begin-begin) → c.begin-begin.result + length c.args.text.now ≤ 8192
-room c = omega (arith, begins c, c.requires.room)
+pub returns-then-is_full-clause-value : goal.returns-then-is_full-clause-value
+returns-then-is_full-clause-value c = (full c).value
 
-pub overflow_add-end : goal.overflow_add-end
-overflow_add-end c = let l = room (goal.at.overflow_add-end c).After-begin-begin in search rules
+pub returns-then-is_full-clause-after : goal.returns-then-is_full-clause-after
+returns-then-is_full-clause-after c = (full c).after_it
 
-pub slice_bounds-copy_from_slice-end : goal.slice_bounds-copy_from_slice-end
-slice_bounds-copy_from_slice-end c = let l = room (goal.at.slice_bounds-copy_from_slice-end c).After-begin-begin in search rules
+-- there is a place for one more end
+few : (n : ℕ) → n ≤ 128 → false ≡ (n == 128) → n < 128
+few n l e = let other : n ≢ 128 = eqb-false n 128 (sym e) in omega arith
 
-pub overflow_cast-self : goal.overflow_cast-self
-overflow_cast-self c = let l = room (goal.at.overflow_cast-self c).After-begin-begin in search rules
+-- there is no room for the bytes
+no_room : {X E : Type 0} (r : Result X E) (n : ℕ) → (n ≤ 8192 → is_ok r ≡ true) → is_ok r ≡ false → 8192 < n
+no_room r n f e = ⊎_elim (λ l. l) (λ l. let two = sym (f l) ∙ e in let z : ◌≡◌ {A = ℕ} 0 1 = cc in absurd (omega arith)) (cases_lt 8192 n)
 
-pub returns : goal.returns
-returns c =
-    let t = c.args.self.now in
-    let x = c.args.text.now in
-    let b = c.begin-begin.result in
-    let e = begins (goal.at.returns c).After-begin-begin in
-    let l = room (goal.at.returns c).After-begin-begin in
-    let put = c.copy_from_slice.ensures.after in
-    let k : length x ≡ b + length x - b = omega arith in
-    let whole : length t.bytes ≡ 8192 = c.requires.held.4 in
-    let size : total (rules_on t) + length x ≡ b + length c.copy_from_slice.new.self = omega (arith, ap length put) in
-    push_held t.count t.ends t.bytes (rules_on t) c.requires.held x (b + length x) (put_mid b (b + length x - b) t.bytes c.copy_from_slice.new.self)
-    c.requires.few (ap (λ n. n + length x) e)
-    (take-put_mid b (b + length x - b) t.bytes c.copy_from_slice.new.self (total (rules_on t) + length x) size (omega arith) ∙ ap₂ (λ n y. take n t.bytes ++ y) e put)
-    (ap length (put_mid-paste b (b + length x - b) t.bytes c.copy_from_slice.new.self x (length x) put k refl) ∙ length-paste t.bytes b x (length x) (omega arith) (omega arith) ∙ whole)
+at_ok : {X E P : Type 0} (r : Result X E) → is_ok r ≡ true → OnOk r P → P
+at_ok (Ok x) e h = h
+at_ok (Err x) e h = let z : ◌≡◌ {A = ℕ} 0 1 = cc in absurd (omega arith)
+
+at_err : {X E P : Type 0} (r : Result X E) → is_ok r ≡ false → OnErr r P → P
+at_err (Ok x) e h = let z : ◌≡◌ {A = ℕ} 0 1 = cc in absurd (omega arith)
+at_err (Err x) e h = h
+
+large : (c : Then-is_err) → Comes (pushed c.args.self.now c.args.text.now) c.args.self.now (Err Large) c.args.self.now
+large c =
+    let t = c.self.inside in
+    let h = subst (Held t.ends.items t.bytes.items) c.self.view_is c.self.invariant in
+    let free = few (length t.ends.items) c.is_full.ensures.fits c.if-is_full.ensures.value in
+    let more = no_room c.try_extend_from_slice.result (length t.bytes.items + length c.args.text.now) c.try_extend_from_slice.ensures.variant.1 c.if-is_err.ensures.negation in
+    is_large c.args.self.now c.args.text.now
+    (omega (arith, count_held t.ends.items t.bytes.items c.args.self.now h, free))
+    (omega (arith, size_held t.ends.items t.bytes.items c.args.self.now h, more))
+
+pub returns-then-is_err-clause-value : goal.returns-then-is_err-clause-value
+returns-then-is_err-clause-value c = (large c).value
+
+pub returns-then-is_err-clause-after : goal.returns-then-is_err-clause-after
+returns-then-is_err-clause-after c =
+    ap (λ b. cut 0 c.self.inside.ends.items b.items) (at_err c.try_extend_from_slice.result c.if-is_err.ensures.negation c.try_extend_from_slice.ensures.err)
+    ∙ c.self.view_is ∙ (large c).after_it
+
+-- the rule is laid, and its end
+laid : (c : After-push) → Held c.push.new.self.items c.try_extend_from_slice.new.self.items (c.args.self.now ++ c.args.text.now ∷ [])
+laid c =
+    let t = c.self.inside in
+    let h = subst (Held t.ends.items t.bytes.items) c.self.view_is c.self.invariant in
+    push_held t.ends.items t.bytes.items c.args.self.now h c.args.text.now c.push.new.self.items c.try_extend_from_slice.new.self.items
+    (at_ok c.try_extend_from_slice.result c.if-is_err.ensures.negation c.try_extend_from_slice.ensures.ok)
+    (c.push.ensures.items ∙ ap (λ n. t.ends.items ++ n ∷ []) c.len.ensures.value)
+
+put : (c : After-push) → Comes (pushed c.args.self.now c.args.text.now) c.args.self.now (Ok tt) (c.args.self.now ++ c.args.text.now ∷ [])
+put c =
+    let t = c.self.inside in
+    let h = subst (Held t.ends.items t.bytes.items) c.self.view_is c.self.invariant in
+    let free = few (length t.ends.items) c.is_full.ensures.fits c.if-is_full.ensures.value in
+    let long = at_ok c.try_extend_from_slice.result c.if-is_err.ensures.negation c.try_extend_from_slice.ensures.len in
+    put_up c.args.self.now c.args.text.now
+    (omega (arith, count_held t.ends.items t.bytes.items c.args.self.now h, free))
+    (omega (arith, size_held t.ends.items t.bytes.items c.args.self.now h, long, c.len.ensures.value, c.len.ensures.fits))
+
+pub invariant_of-self-2 : goal.invariant_of-self-2
+invariant_of-self-2 c = held_again c.push.new.self.items c.try_extend_from_slice.new.self.items _ (laid (goal.at.invariant_of-self-2 c).After-push)
+
+pub returns-clause-value : goal.returns-clause-value
+returns-clause-value c = (put (goal.at.returns-clause-value c).After-push).value
+
+pub returns-clause-after : goal.returns-clause-after
+returns-clause-after c =
+    cut_held c.push.new.self.items c.try_extend_from_slice.new.self.items _ (laid (goal.at.returns-clause-after c).After-push)
+    ∙ (put (goal.at.returns-clause-after c).After-push).after_it
