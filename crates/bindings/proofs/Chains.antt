@@ -1,36 +1,29 @@
 -- The chain of bound cells, back to a mark. Assumes nothing.
-use Rattle.std.proofs.Common.{◌≡◌, ℕ, zero, suc, ◌<◌, true, false, ◌≢◌, List, [], ◌∷◌, length, get_or, set, sym, refl, ap, ◌∙◌, subst, le_of_suc-le-suc, not-suc-le-zero, arith, length-set, get_or-set_other, get_or-set_same, set-set}
+use Rattle.std.proofs.Common.{◌≡◌, ℕ, zero, suc, ◌<◌, ◌≢◌, List, [], ◌∷◌, length, get_or, set, sym, refl, ap, ◌∙◌, subst, le_of_suc-le-suc, not-suc-le-zero, arith, length-set, get_or-set_other, get_or-set_same, set-set, Some, None}
 use lib.Seq.{set-get_or}
-use Rattle.bindings.specs.declared.Cell.{Cell}
-use Rattle.bindings.specs.declared.Cell.TheVariants.{Free, Bound}
+use Rattle.bindings.specs.declared.Binding.{Binding}
+use Rattle.bindings.specs.declared.TermAt.{TermAt}
+use Rattle.bindings.specs.Cells.{Cell}
 use Rattle.bindings.specs.Trails.{Back, Since, bound_count, free_count}
 
-pub true_not_false : true ≡ false → ⊥
-true_not_false e = let z : ◌≡◌ {A = ℕ} 0 1 = cc in omega arith
-
-pub bound_not_free : (p l b : ℕ) (c : Cell) → c ≡ Bound p l b → c ≡ Free → ⊥
-bound_not_free p l b c e f = let z : ◌≡◌ {A = ℕ} 0 1 = cc in omega arith
-
 -- To free a bound cell lowers the count.
-pub bound_count_less : (cs : List Cell) (i p l b : ℕ) → i < length cs → get_or cs i Free ≡ Bound p l b → bound_count (set cs i Free) < bound_count cs
-bound_count_less [] i p l b lt e = absurd (not-suc-le-zero lt)
-bound_count_less (c ∷ cs) zero p l b lt e = rw e (omega arith)
-bound_count_less (c ∷ cs) (suc i) p l b lt e = let h = bound_count_less cs i p l b (le_of_suc-le-suc lt) e in omega arith
+pub bound_count_less : (cs : List Cell) (i : ℕ) (b : Binding) → i < length cs → get_or cs i None ≡ Some b → bound_count (set cs i None) < bound_count cs
+bound_count_less [] i b lt e = absurd (not-suc-le-zero lt)
+bound_count_less (c ∷ cs) zero b lt e = rw e (omega arith)
+bound_count_less (c ∷ cs) (suc i) b lt e = let h = bound_count_less cs i b (le_of_suc-le-suc lt) e in omega arith
 
 -- And makes one more free.
-pub free_count_more : (cs : List Cell) (i p l b : ℕ) → i < length cs → get_or cs i Free ≡ Bound p l b → free_count (set cs i Free) ≡ suc (free_count cs)
-free_count_more [] i p l b lt e = absurd (not-suc-le-zero lt)
-free_count_more (c ∷ cs) zero p l b lt e = rw e (omega arith)
-free_count_more (c ∷ cs) (suc i) p l b lt e = let h = free_count_more cs i p l b (le_of_suc-le-suc lt) e in omega arith
+pub free_count_more : (cs : List Cell) (i : ℕ) (b : Binding) → i < length cs → get_or cs i None ≡ Some b → free_count (set cs i None) ≡ suc (free_count cs)
+free_count_more [] i b lt e = absurd (not-suc-le-zero lt)
+free_count_more (c ∷ cs) zero b lt e = rw e (omega arith)
+free_count_more (c ∷ cs) (suc i) b lt e = let h = free_count_more cs i b (le_of_suc-le-suc lt) e in omega arith
 
 -- The newest bound cell, and the chain from the one before it.
 pub record Stepped (was : List Cell) (m : ℕ) (cs : List Cell) (h : ℕ) : Type 0 where
-  pub place : ℕ
-  pub level : ℕ
-  pub before : ℕ
+  pub binding : Binding
   pub inside : h < length cs
-  pub is : get_or cs h Free ≡ Bound place level before
-  pub rest : Since was m (set cs h Free) before
+  pub is : get_or cs h None ≡ Some binding
+  pub rest : Since was m (set cs h None) binding.before
 
 -- One step back, where the chain has not come to its mark.
 pub step_back : {was : List Cell} {m : ℕ} {cs : List Cell} {h : ℕ} → (h ≡ m → ⊥) → Since was m cs h → Stepped was m cs h
@@ -40,24 +33,22 @@ step_back {was} {m} {cs} {h} ne s = go s.links s.chain where
   go zero c = absurd (ne c.1)
   go (suc n) c =
       record {
-        place = c.2.0;
-        level = c.2.1;
-        before = c.2.2;
+        binding = c.2.0;
         inside = c.0;
-        is = c.2.3;
+        is = c.2.1;
         rest =
             record {
               mark = λ lt f. let other : m ≢ h = λ e. ne (sym e) in s.mark (rw length-set at lt) (rw get_or-set_other at f);
               links = n;
-              chain = c.2.4;
+              chain = c.2.2;
             };
       }
 
 -- The same, where the cell is known.
-pub step_on : {was : List Cell} {m : ℕ} {cs : List Cell} {h p l b : ℕ} → get_or cs h Free ≡ Bound p l b → Stepped was m cs h → Since was m (set cs h Free) b
-step_on {was} {m} {cs} {h} {p} {l} {b} e s = let q : s.before ≡ b = cc in subst (λ (x : ℕ). Since was m (set cs h Free) x) q s.rest
+pub step_on : {was : List Cell} {m : ℕ} {cs : List Cell} {h : ℕ} {b : Binding} → get_or cs h None ≡ Some b → Stepped was m cs h → Since was m (set cs h None) b.before
+step_on {was} {m} {cs} {h} {b} e s = let q : s.binding ≡ b = cc in subst (λ (x : Binding). Since was m (set cs h None) x.before) q s.rest
 
--- Spans the mark nothing is left to take back.
+-- At the mark nothing is left to take back.
 pub at_mark : {was : List Cell} {m : ℕ} {cs : List Cell} → Since was m cs m → cs ≡ was
 unfolding Back
 at_mark {was} {m} {cs} s = go s.links s.chain where
@@ -66,23 +57,26 @@ at_mark {was} {m} {cs} s = go s.links s.chain where
   go (suc n) c = absurd (c.1 refl)
 
 -- A free cell bound and freed again.
-pub back_cells : (cs : List Cell) (i : ℕ) (c : Cell) → get_or cs i Free ≡ Free → set (set cs i c) i Free ≡ cs
-back_cells cs i c fr = set-set cs i c Free ∙ ap (λ (x : Cell). set cs i x) (sym fr) ∙ set-get_or cs i Free
+pub back_cells : (cs : List Cell) (i : ℕ) (c : Cell) → get_or cs i None ≡ None → set (set cs i c) i None ≡ cs
+back_cells cs i c fr = set-set cs i c None ∙ ap (λ (x : Cell). set cs i x) (sym fr) ∙ set-get_or cs i None
 
 -- A free cell bound goes on the chain.
-pub bind_since : (was : List Cell) (m : ℕ) (cs : List Cell) (h i p l : ℕ) → i < length cs → get_or cs i Free ≡ Free
-    → Since was m cs h → Since was m (set cs i (Bound p l h)) i
+pub bind_since : (was : List Cell) (m : ℕ) (cs : List Cell) (h i : ℕ) (t : TermAt) → i < length cs → get_or cs i None ≡ None
+    → Since was m cs h → Since was m (set cs i (Some (record { term = t; before = h }))) i
 unfolding Back
-bind_since was m cs h i p l lt fr s =
+bind_since was m cs h i t lt fr s =
     record {
       mark = λ ml f. let ne : m ≢ i = λ e. i_not_m (sym e) in s.mark (rw length-set at ml) (rw get_or-set_other at f);
       links = suc s.links;
       chain = (
         (rw length-set lt),
         i_not_m,
-        (p, l, h, get_or-set_same cs i (Bound p l h) Free lt, subst (λ (ds : List Cell). Back s.links was m ds h) (sym (back_cells cs i (Bound p l h) fr)) s.chain),
+        (b, get_or-set_same cs i (Some b) None lt, subst (λ (ds : List Cell). Back s.links was m ds h) (sym (back_cells cs i (Some b) fr)) s.chain),
       );
     }
   where
+    b : Binding
+    b = record { term = t; before = h }
+
     i_not_m : i ≡ m → ⊥
-    i_not_m e = s.mark (subst (λ (x : ℕ). x < length cs) e lt) (subst (λ (x : ℕ). get_or cs x Free ≡ Free) e fr)
+    i_not_m e = s.mark (subst (λ (x : ℕ). x < length cs) e lt) (subst (λ (x : ℕ). get_or cs x None ≡ None) e fr)

@@ -1,12 +1,11 @@
 -- Terms that were copied into the text stand there. Assumes nothing.
 use Rattle.std.proofs.Common.{◌≡◌, ℕ, suc, ◌+◌, ◌*◌, ◌/◌, ◌%◌, ◌<◌, ◌≤◌, List, [], ◌∷◌, ◌++◌, length, get_or, sym, refl, ap, ◌∙◌, subst, arith, length-append}
+use Rattle.std.proofs.lemmas.List.{get_or_append_left, get_or-append-add}
 use Rattle.terms.specs.declared.Form.TheVariants.{Rules}
 use Rattle.terms.specs.Terms.{Term, var, atom, pair}
 use Rattle.terms.specs.Bytes.{encoding, Fits}
 use Rattle.unification.specs.Variables.{Within}
 use Rattle.bindings.specs.Texts.{Spans, tree, Declares, Holds}
-use Rattle.bindings.specs.Overlays.{laid}
-use Rattle.bindings.proofs.Overlays.{laid_inside, laid_before, laid_length}
 use Rattle.bindings.proofs.Texts.{spans_tree}
 
 -- ── bytes in the text ──
@@ -19,18 +18,18 @@ holds_each text p (b ∷ bs) l e = (
   holds_each text (p + 1) bs (omega (arith, l)) (λ j i q h. e j (suc i) (omega (arith, q)) (omega (arith, h))),
 )
 
--- What is laid over the text stands there.
-pub laid_holds : (k : ℕ) (bs text : List ℕ) → k + length bs ≤ length text → Holds (laid k bs text) k bs
-laid_holds k bs text l =
-    holds_each (laid k bs text) k bs (omega (arith, l, laid_length k bs text)) (λ j i q h. laid_inside k j i bs text q h l)
+-- What is put at the end of the text stands there.
+pub holds_after : (text bs : List ℕ) → Holds (text ++ bs) (length text) bs
+holds_after text bs =
+    holds_each (text ++ bs) (length text) bs (omega (arith, length-append text bs)) (λ j i q h. ap (λ (n : ℕ). get_or (text ++ bs) n 0) q ∙ get_or-append-add text bs i 0)
 
--- What stands before the place stays.
-pub holds_before : (k p : ℕ) (cs bs text : List ℕ) → p + length bs ≤ k → Holds text p bs → Holds (laid k cs text) p bs
-holds_before k p cs [] text l h = tt
-holds_before k p cs (b ∷ bs) text l h = (
-  omega (arith, h.0, laid_length k cs text),
-  laid_before k p cs text (omega (arith, l)) ∙ h.1,
-  holds_before k (p + 1) cs bs text (omega (arith, l)) h.2,
+-- What stands in the text stays when more comes after it.
+pub holds_more : (p : ℕ) (bs text more : List ℕ) → Holds text p bs → Holds (text ++ more) p bs
+holds_more p [] text more h = tt
+holds_more p (b ∷ bs) text more h = (
+  omega (arith, h.0, length-append text more),
+  get_or_append_left text more 0 p h.0 ∙ h.1,
+  holds_more (p + 1) bs text more h.2,
 )
 
 -- The parts of what stands in the text stand there.

@@ -1,39 +1,28 @@
 -- The ways in which unification under the cells ends. Assumes nothing.
-use Rattle.std.proofs.Common.{◌≡◌, ℕ, suc, ◌+◌, ◌*◌, ◌<◌, ◌≤◌, Bool, true, false, cond, T, eqb, List, [], ◌∷◌, ◌++◌, length, get_or, set, sym, refl, ap, ◌∙◌, subst, ap₂, le_refl, suc-mul, mul-le-mul, arith, length-append}
+use Rattle.std.proofs.Common.{◌≡◌, ℕ, suc, ◌+◌, ◌*◌, ◌<◌, ◌≤◌, Bool, true, false, cond, eqb, List, [], ◌∷◌, ◌++◌, length, get_or, set, sym, refl, ap, ◌∙◌, subst, ap₂, le_refl, suc-mul, mul-le-mul, arith, length-append, Some, None, true≢false, ne_eqb}
 use mathlib.Core.Option.{Option, none, some}
-use lib.Dec.{eqb_refl}
 use Rattle.terms.specs.Terms.{Term, var, atom, pair}
 use Rattle.unification.specs.Variables.{is_variable, occurs}
 use Rattle.unification.specs.Substitutions.{Substitution, apply}
 use Rattle.unification.specs.Unification.{unify, bind, followed, rests}
 use Rattle.bindings.specs.Meanings.{meaning, size, growth}
 use Rattle.bindings.proofs.Meanings.{size_positive}
-use Rattle.unification.proofs.Choice.{T→true}
 use Rattle.unification.proofs.Substitutions.{apply_append}
-use Rattle.unification.proofs.Steps.{unify_same, unify_left, unify_atom_right, unify_pair_right, unify_atoms, unify_atom_pair, unify_pair_atom, unify_pairs, unify_itself}
-use Rattle.bindings.specs.declared.Cell.{Cell}
-use Rattle.bindings.specs.declared.Cell.TheVariants.{Free, Bound}
+use Rattle.unification.proofs.Steps.{unify_left, unify_atom_right, unify_pair_right, unify_atoms, unify_atom_pair, unify_pair_atom, unify_pairs, unify_itself}
+use Rattle.bindings.specs.Cells.{Cell}
 use Rattle.bindings.specs.declared.TermAt.{TermAt}
 use Rattle.bindings.specs.Texts.{term}
 use Rattle.bindings.specs.Trails.{free_count}
 use Rattle.bindings.specs.Trails.{trail, Sound, TermIn, meaning_at, size_bound, weight}
-use Rattle.bindings.specs.declared.Shape.{Shape}
-use Rattle.bindings.specs.declared.Shape.TheVariants.{Open, Atom, Pair}
-use Rattle.bindings.specs.Shapes.{Shows}
 use Rattle.bindings.specs.Endings.{Applied, Ends}
-use Rattle.bindings.proofs.Chains.{true_not_false}
-use Rattle.bindings.proofs.Shapes.{split}
-use Rattle.bindings.proofs.Links.{bind_applied, sound_size, eqb-false}
+use Rattle.bindings.proofs.Links.{bind_applied, sound_size}
 
 pub applied_nothing : {text : List ℕ} {n : ℕ} {cs : List Cell} {h : ℕ} → Sound text n cs h → Applied text n cs h cs h []
 applied_nothing g = record { sound = g; means = λ t. refl; fewer = omega arith }
 
--- A cell that occurs in the term is not bound to it; one that does not is.
-pub assign_no : {text : List ℕ} {n : ℕ} {cs : List Cell} {h : ℕ} {ds : List Cell} {k : ℕ} (x : ℕ) (m : Term) → occurs x m ≡ true → Ends text n cs h ds k (bind x m) false
-assign_no {text} {n} {cs} {h} {ds} {k} x m e = subst (λ (b : Bool). Ends text n cs h ds k (cond b none (some ((x, m) ∷ []))) false) (sym e) (record { says = refl })
-
-pub assign_yes : (text : List ℕ) (n : ℕ) (cs : List Cell) (h : ℕ) (ds : List Cell) (k x : ℕ) (t : TermAt) → Sound text n cs h → TermIn text n t → x < n → get_or cs x Free ≡ Free
-    → occurs x (meaning_at text cs h t) ≡ false → ds ≡ set cs x (Bound t.place t.level h) → k ≡ x
+-- A cell that does not occur in the term is bound to it.
+pub assign_yes : (text : List ℕ) (n : ℕ) (cs : List Cell) (h : ℕ) (ds : List Cell) (k x : ℕ) (t : TermAt) → Sound text n cs h → TermIn text n t → x < n → get_or cs x None ≡ None
+    → occurs x (meaning_at text cs h t) ≡ false → ds ≡ set cs x (Some (record { term = t; before = h })) → k ≡ x
     → Ends text n cs h ds k (bind x (meaning_at text cs h t)) true
 assign_yes text n cs h ds k x t g s lt fr e q r =
     subst (λ (b : Bool). Ends text n cs h ds k (cond b none (some ((x, meaning_at text cs h t) ∷ []))) true) (sym e)
@@ -41,19 +30,13 @@ assign_yes text n cs h ds k x t g s lt fr e q r =
       says = (
         refl,
         subst (λ (es : List Cell). Applied text n cs h es k ((x, meaning_at text cs h t) ∷ [])) (sym q)
-            (subst (λ (y : ℕ). Applied text n cs h (set cs x (Bound t.place t.level h)) y ((x, meaning_at text cs h t) ∷ [])) (sym r)
-            (bind_applied g x t.place t.level lt fr s e)),
+            (subst (λ (y : ℕ). Applied text n cs h (set cs x (Some (record { term = t; before = h }))) y ((x, meaning_at text cs h t) ∷ [])) (sym r)
+            (bind_applied g x t lt fr s e)),
       );
     })
 
 pub var_other : (x y : ℕ) (m : Term) → m ≡ var y → (x ≡ y → ⊥) → is_variable x m ≡ false
-var_other x y m e n = ap (is_variable x) e ∙ eqb-false x y n
-
--- What shows as an atom or a pair is no variable.
-pub not_open : {text : List ℕ} {n : ℕ} {cs : List Cell} {h : ℕ} → Sound text n cs h → (x : ℕ) (m : Term) (s : Shape) → Shows text n cs h m s → ((y : ℕ) → s ≡ Open y → ⊥) → is_variable x m ≡ false
-not_open g x m (Open y) w shut = absurd (shut y refl)
-not_open g x m (Atom a) w shut = ap (is_variable x) w
-not_open g x m (Pair p) w shut = ap (is_variable x) (split g w).is
+var_other x y m e n = ap (is_variable x) e ∙ ne_eqb x y n
 
 module _ {text : List ℕ} {n : ℕ} {cs : List Cell} {h : ℕ} where
   applied_then : {ds es : List Cell} {k m : ℕ} {σ τ : Substitution} → Applied text n cs h ds k σ → Applied text n ds k es m τ → Applied text n cs h es m (σ ++ τ)
@@ -72,29 +55,24 @@ module _ {text : List ℕ} {n : ℕ} {cs : List Cell} {h : ℕ} where
   pub both_ends : {ds es : List Cell} {k m : ℕ} (o : Option Substitution) {q r : Bool} (s t : Term) → Ends text n cs h ds k o q → q ≡ true
       → Ends text n ds k es m (unify (meaning (trail text ds k) s) (meaning (trail text ds k) t)) r
       → Ends text n cs h es m (rests unify o (meaning (trail text cs h) s) (meaning (trail text cs h) t)) r
-  both_ends none s t e y f = absurd (true_not_false (sym y ∙ e.says))
+  both_ends none s t e y f = absurd (true≢false (sym y ∙ e.says))
   both_ends {ds} {es} {k} {m} (some σ) {q} {r} s t e y f =
       after_ends e.says.1 (unify (apply σ (meaning (trail text cs h) s)) (apply σ (meaning (trail text cs h) t))) r
       (subst (λ (o : Option Substitution). Ends text n ds k es m o r) (ap₂ unify (e.says.1.means s) (e.says.1.means t)) f)
 
   -- The firsts alone.
-  pub first_ends : {ds : List Cell} {k : ℕ} (o : Option Substitution) {q : Bool} (s t : Term) → Ends text n cs h ds k o q → q ≡ false
-      → Ends text n cs h ds k (rests unify o s t) q
-  first_ends none s t e y = record { says = y }
-  first_ends (some σ) s t e y = absurd (true_not_false (sym e.says.0 ∙ y))
-
   pub first_failed : {ds : List Cell} {k : ℕ} (o : Option Substitution) {q : Bool} (s t : Term) → Ends text n cs h ds k o q → q ≡ false
       → Ends text n cs h ds k (rests unify o s t) false
   first_failed none s t e y = record { says = refl }
-  first_failed (some σ) s t e y = absurd (true_not_false (sym e.says.0 ∙ y))
+  first_failed (some σ) s t e y = absurd (true≢false (sym e.says.0 ∙ y))
 
-  -- Where there is no unifier, nothing is said of the trail-within.
+  -- Where there is no unifier, nothing is said of the cells.
   pub failed_ends : {ds es : List Cell} {k m : ℕ} (o : Option Substitution) {q : Bool} → Ends text n cs h ds k o q → q ≡ false → Ends text n cs h es m o q
   failed_ends none e y = record { says = y }
-  failed_ends (some σ) e y = absurd (true_not_false (sym e.says.0 ∙ y))
+  failed_ends (some σ) e y = absurd (true≢false (sym e.says.0 ∙ y))
 
   pub first_sound : {ds : List Cell} {k : ℕ} (o : Option Substitution) {q : Bool} → Ends text n cs h ds k o q → q ≡ true → Sound text n ds k
-  first_sound none e y = absurd (true_not_false (sym y ∙ e.says))
+  first_sound none e y = absurd (true≢false (sym y ∙ e.says))
   first_sound (some σ) e y = e.says.1.sound
 
 -- The measure falls at the firsts, and at the seconds.
@@ -129,7 +107,7 @@ module _ (text : List ℕ) (n : ℕ) (cs : List Cell) (h : ℕ) where
 
   pub weight_rest : {ds : List Cell} {k : ℕ} (o : Option Substitution) {q : Bool} (a f r : TermAt) → meaning_at text cs h a ≡ pair (meaning_at text cs h f) (meaning_at text cs h r)
       → TermIn text n r → length ds ≡ length cs → Ends text n cs h ds k o q → q ≡ true → weight text ds k r < weight text cs h a
-  weight_rest none a f r e s many d y = absurd (true_not_false (sym y ∙ d.says))
+  weight_rest none a f r e s many d y = absurd (true≢false (sym y ∙ d.says))
   weight_rest (some []) a f r e s many d y = weight_nil a f r e many d.says.1
   weight_rest (some (p ∷ σ)) a f r e s many d y = weight_some a r p σ s many d.says.1
 
@@ -155,11 +133,6 @@ module _ {text : List ℕ} {n : ℕ} {cs : List Cell} {h : ℕ} where
 
     pub case_pairs : (a b c d : Term) → g ≡ pair a b → j ≡ pair c d → Ends text n cs h ds k (rests unify (unify a c) b d) r → Ends text n cs h ds k (unify g j) r
     case_pairs a b c d e f w = subst (λ (o : Option Substitution). Ends text n cs h ds k o r) (sym (ap₂ unify e f ∙ unify_pairs a b c d)) w
-
-  pub case_same : (g j : Term) (x y : ℕ) → Sound text n cs h → g ≡ var x → j ≡ var y → x ≡ y → Ends text n cs h cs h (unify g j) (eqb x y)
-  case_same g j x y sound e f q =
-      subst (λ (r : Bool). Ends text n cs h cs h (unify g j) r) (sym (T→true (eqb x y) (subst (λ (z : ℕ). T (eqb x z)) q (eqb_refl x))))
-      (subst (λ (o : Option Substitution). Ends text n cs h cs h o true) (sym (ap₂ unify e (f ∙ ap var (sym q)) ∙ unify_same x)) (record { says = (refl, applied_nothing sound) }))
 
   atoms_done : (b : Bool) → Sound text n cs h → Ends text n cs h cs h (cond b (some []) none) b
   atoms_done true sound = record { says = (refl, applied_nothing sound) }

@@ -30,7 +30,7 @@ lookups_unbound c (b ∷ L) u =
     let f : cond (is_variable b.0 (meaning L (var c))) (suc (lookups L b.1)) 0 ≡ 0 = ap (λ (k : Bool). cond k (suc (lookups L b.1)) 0) e in
     omega (arith, lookups_unbound c L u.1)
 
--- a variable and the term bound to it meaning the same
+-- a variable and the term bound to it mean the same
 pub meaning_bound : (c : ℕ) (t : Term) (L : Trail) → Acyclic L → Binds c t L → meaning L (var c) ≡ meaning L t
 meaning_bound c t [] f h = absurd h
 meaning_bound c t (b ∷ L) f (inl e) =
@@ -46,21 +46,21 @@ variable_occurs c (var x) e = e
 variable_occurs c (atom a) e = refl
 variable_occurs c (pair s t) e = refl
 
--- going on with the term bound to a variable takes one-bound look-up less
+-- going on with the term bound to a variable takes one look-up less
 pub lookups_bound : (c : ℕ) (t : Term) (L : Trail) → Acyclic L → Binds c t L → lookups L (var c) ≡ suc (lookups L t)
 unfolding lookups
 lookups_bound c t [] f h = absurd h
 lookups_bound c t (b ∷ L) f (inl e) =
     ap (λ (x : ℕ). lookups (b ∷ L) (var x)) (sym e.0) ∙ here ∙ ap (λ (s : Term). suc (lookups (b ∷ L) s)) e.1
   where
-    one_bound : cond (is_variable b.0 (meaning L (var b.0))) (suc (lookups L b.1)) 0 ≡ suc (lookups L b.1)
-    one_bound = ap (λ (s : Term). cond (is_variable b.0 s) (suc (lookups L b.1)) 0) (meaning_unbound b.0 L f.0) ∙ ap (λ (k : Bool). cond k (suc (lookups L b.1)) 0) (T→true (eqb b.0 b.0) (eqb_refl b.0))
+    one : cond (is_variable b.0 (meaning L (var b.0))) (suc (lookups L b.1)) 0 ≡ suc (lookups L b.1)
+    one = ap (λ (s : Term). cond (is_variable b.0 s) (suc (lookups L b.1)) 0) (meaning_unbound b.0 L f.0) ∙ ap (λ (k : Bool). cond k (suc (lookups L b.1)) 0) (T→true (eqb b.0 b.0) (eqb_refl b.0))
 
     nought : cond (is_variable b.0 (meaning L b.1)) (suc (lookups L b.1)) 0 ≡ 0
     nought = ap (λ (k : Bool). cond k (suc (lookups L b.1)) 0) (variable_occurs b.0 (meaning L b.1) f.1)
 
     here : lookups (b ∷ L) (var b.0) ≡ suc (lookups (b ∷ L) b.1)
-    here = omega (arith, one_bound, nought, lookups_unbound b.0 L f.0)
+    here = omega (arith, one, nought, lookups_unbound b.0 L f.0)
 lookups_bound c t (b ∷ L) f (inr h) =
     let e : cond (is_variable b.0 (meaning L (var c))) (suc (lookups L b.1)) 0 ≡ cond (is_variable b.0 (meaning L t)) (suc (lookups L b.1)) 0 =
     ap (λ (s : Term). cond (is_variable b.0 s) (suc (lookups L b.1)) 0) (meaning_bound c t L f.2 h) in

@@ -3,27 +3,16 @@ use Rattle.std.proofs.Common.{◌≡◌, ℕ, zero, suc, ◌+◌, ◌-◌, ◌<�
 use lib.ListN.{length-map}
 use Rattle.std.proofs.lemmas.List.{take-map, drop-map}
 use Rattle.terms.specs.Terms.{Term, var, atom, pair}
-use Rattle.unification.specs.Variables.{Within, shifted}
+use Rattle.unification.specs.Variables.{shifted}
 use Rattle.unification.specs.Substitutions.{Substitution, apply}
-use Rattle.resolution.specs.Cells.{fresh, cell, present}
+use Rattle.resolution.specs.Cells.{fresh}
 use Rattle.resolution.proofs.Cells.{fresh_length, stepped, map-append}
-use Rattle.bindings.specs.declared.Cell.{Cell}
+use Rattle.bindings.specs.Cells.{Cell}
 use Rattle.bindings.specs.Meanings.{Trail, meaning}
 use Rattle.bindings.specs.Trails.{trail, Sound}
 use Rattle.bindings.specs.Presents.{presents}
 use Rattle.bindings.proofs.Meanings.{meaning_atom, meaning_pair}
 use Rattle.bindings.proofs.Links.{sound_free, sound_unused}
-
-cell_meaning : (L : Trail) (n m k : ℕ) → k < m → cell (map (meaning L) (fresh n m)) k ≡ meaning L (var (n + k))
-cell_meaning L n zero k h = absurd (omega (arith, h))
-cell_meaning L n (suc m) zero h = ap (λ (x : ℕ). meaning L (var x)) (omega arith)
-cell_meaning L n (suc m) (suc k) h = cell_meaning L (suc n) m k (omega (arith, h)) ∙ ap (λ (x : ℕ). meaning L (var x)) (omega arith)
-
--- A term over cells in use has their present terms as its meaning.
-pub present_meaning : (L : Trail) (n : ℕ) (t : Term) → Within n t → present (presents L n) t ≡ meaning L t
-present_meaning L n (var k) h = cell_meaning L 0 n k h ∙ ap (λ (x : ℕ). meaning L (var x)) (omega arith)
-present_meaning L n (atom a) h = sym (meaning_atom L a)
-present_meaning L n (pair s t) h = ap₂ pair (present_meaning L n s h.0) (present_meaning L n t h.1) ∙ sym (meaning_pair L s t)
 
 pub presents_length : (L : Trail) (n : ℕ) → length (presents L n) ≡ n
 presents_length L n = length-map (fresh 0 n) (meaning L) ∙ fresh_length 0 n
@@ -81,18 +70,18 @@ module _ {text : List ℕ} {n : ℕ} {cs : List Cell} {h : ℕ} (sound : Sound t
       zero_plus = omega arith
 
 -- Cells that are gone through one by one: none is done, one more is, all are.
-module _ (L : Trail) (from many : ℕ) where
-  abbrev pub cells_left : ℕ → List Term
-  cells_left i = map (meaning L) (fresh (from + i) (many - i))
+module _ (L : Trail) (to : ℕ) where
+  abbrev pub cells_from : ℕ → List Term
+  cells_from c = map (meaning L) (fresh c (to - c))
 
-  pub cells_none : map (meaning L) (fresh from many) ≡ cells_left 0
-  cells_none = ap₂ (λ (n k : ℕ). map (meaning L) (fresh n k)) (omega arith) (omega arith)
+  pub cells_none : (from many : ℕ) → to ≡ from + many → map (meaning L) (fresh from many) ≡ cells_from from
+  cells_none from many h = ap (λ (k : ℕ). map (meaning L) (fresh from k)) (omega (arith, h))
 
-  pub cells_more : (i : ℕ) → i < many → cells_left i ≡ meaning L (var (from + i)) ∷ cells_left (i + 1)
-  cells_more i h =
-      let e : many - i ≡ suc (many - (i + 1)) = omega arith in
-      let f : suc (from + i) ≡ from + (i + 1) = omega arith in
-      ap (λ (k : ℕ). map (meaning L) (fresh (from + i) k)) e ∙ ap (λ (n : ℕ). meaning L (var (from + i)) ∷ map (meaning L) (fresh n (many - (i + 1)))) f
+  pub cells_more : (c : ℕ) → c < to → cells_from c ≡ meaning L (var c) ∷ cells_from (c + 1)
+  cells_more c h =
+      let e : to - c ≡ suc (to - (c + 1)) = omega arith in
+      let f : suc c ≡ c + 1 = omega arith in
+      ap (λ (k : ℕ). map (meaning L) (fresh c k)) e ∙ ap (λ (n : ℕ). meaning L (var c) ∷ map (meaning L) (fresh n (to - (c + 1)))) f
 
-  pub cells_all : (i : ℕ) → many ≤ i → cells_left i ≡ []
-  cells_all i h = let e : many - i ≡ 0 = omega arith in ap (λ (k : ℕ). map (meaning L) (fresh (from + i) k)) e
+  pub cells_all : (c : ℕ) → to ≤ c → cells_from c ≡ []
+  cells_all c h = let e : to - c ≡ 0 = omega arith in ap (λ (k : ℕ). map (meaning L) (fresh c k)) e

@@ -1,11 +1,11 @@
 -- The form of a meaning, by what stands in the text. Assumes nothing.
-use Rattle.std.proofs.Common.{◌≡◌, ℕ, suc, ◌+◌, ◌*◌, ◌<◌, Bool, true, false, cond, List, get_or, sym, ap, ◌∙◌, subst, ap₂, arith}
+use Rattle.std.proofs.Common.{◌≡◌, ℕ, suc, ◌+◌, ◌*◌, ◌<◌, Bool, true, false, cond, List, get_or, sym, ap, ◌∙◌, subst, ap₂, arith, Some, None}
 use Rattle.terms.specs.Terms.{Term, var, atom, pair}
 use Rattle.unification.specs.Variables.{occurs}
 use Rattle.bindings.specs.Meanings.{meaning, lookups, size}
 use Rattle.bindings.proofs.Meanings.{meaning_atom, meaning_pair}
-use Rattle.bindings.specs.declared.Cell.{Cell}
-use Rattle.bindings.specs.declared.Cell.TheVariants.{Free, Bound}
+use Rattle.bindings.specs.declared.Binding.{Binding}
+use Rattle.bindings.specs.Cells.{Cell}
 use Rattle.bindings.specs.declared.TermAt.{TermAt}
 use Rattle.bindings.specs.Texts.{Spans, tree, term, Stands}
 use Rattle.bindings.specs.Trails.{trail, Sound, TermIn, meaning_at}
@@ -28,15 +28,15 @@ module _ {text : List ℕ} {n : ℕ} {cs : List Cell} {h p l : ℕ} (sound : Sou
       → meaning (trail text cs h) (term text p l) ≡ pair (meaning (trail text cs h) (term text (p + 1) l)) (meaning (trail text cs h) (term text f.mid l))
   form_pair f = ap (meaning (trail text cs h)) f.is ∙ meaning_pair (trail text cs h) (term text (p + 1) l) (term text f.mid l)
 
-  pub form_free : Stands text n p l → get_or text p 0 ≡ 2 → get_or cs (l + get_or text (p + 1) 0) Free ≡ Free
+  pub form_free : Stands text n p l → get_or text p 0 ≡ 2 → get_or cs (l + get_or text (p + 1) 0) None ≡ None
       → meaning (trail text cs h) (term text p l) ≡ var (l + get_or text (p + 1) 0)
   form_free s e f = ap (meaning (trail text cs h)) (stands_variable s e).1 ∙ sound_free sound (l + get_or text (p + 1) 0) f
 
-  pub form_bound : (q k o : ℕ) → Stands text n p l → get_or text p 0 ≡ 2 → get_or cs (l + get_or text (p + 1) 0) Free ≡ Bound q k o → Onward text n cs h p l q k
-  form_bound q k o s e f =
+  pub form_bound : (o : Binding) → Stands text n p l → get_or text p 0 ≡ 2 → get_or cs (l + get_or text (p + 1) 0) None ≡ Some o → Onward text n cs h p l o.term.place o.term.level
+  form_bound o s e f =
       let v : term text p l ≡ var (l + get_or text (p + 1) 0) = (stands_variable s e).1 in
-      let b = sound_bound sound (l + get_or text (p + 1) 0) q k o f in
-      let g : lookups (trail text cs h) (term text p l) ≡ suc (lookups (trail text cs h) (term text q k)) = ap (lookups (trail text cs h)) v ∙ b.1 in
+      let b = sound_bound sound (l + get_or text (p + 1) 0) o f in
+      let g : lookups (trail text cs h) (term text p l) ≡ suc (lookups (trail text cs h) (term text o.term.place o.term.level)) = ap (lookups (trail text cs h)) v ∙ b.1 in
       record { stands = b.2; means = sym (ap (meaning (trail text cs h)) v ∙ b.0); less = omega arith }
 
 -- The parts of what shows as a pair.

@@ -113,6 +113,12 @@ stands_pair {text} {n} {p} {l} s no_atom no_variable =
       is = e;
     }
 
+-- A shift by none changes nothing.
+pub shifted_zero : (t : Term) → shifted 0 t ≡ t
+shifted_zero (var x) = ap var (omega arith)
+shifted_zero (atom a) = refl
+shifted_zero (pair s t) = ap₂ pair (shifted_zero s) (shifted_zero t)
+
 -- A shift keeps the size, and what stands is no larger than the text.
 pub shifted_size : (l : ℕ) (t : Term) → size (shifted l t) ≡ size t
 shifted_size l (var x) = refl
@@ -122,12 +128,6 @@ shifted_size l (pair s t) = ap₂ (λ (x y : ℕ). suc (x + y)) (shifted_size l 
 pub stands_size : {text : List ℕ} {n p l : ℕ} → Stands text n p l → size (term text p l) ≤ length text
 stands_size {text} {n} {p} {l} s =
     let i = inside text p (tree text p) s.end s.spans in omega (arith, shifted_size l (tree text p))
-
--- What stands with its variables below n, stands.
-pub stands_of : (text : List ℕ) (n p l : ℕ) (t : Term) (q : ℕ) → Spans text p t q → Within n (shifted l t) → Stands text n p l
-stands_of text n p l t q h b =
-    let e : t ≡ tree text p = sym (spans_tree text p t q h) in
-    record { end = q; spans = subst (λ (s : Term). Spans text p s q) e h; within = subst (λ (s : Term). Within n (shifted l s)) e b }
 
 -- What stands over some cells stands over more.
 pub stands_more : {text : List ℕ} {n m p l : ℕ} → n ≤ m → Stands text n p l → Stands text m p l

@@ -1,9 +1,8 @@
 -- Tests whether terms stand in the text, cells are in order, and a mark is on their chain. Assumes nothing.
-use Rattle.std.specs.Prelude.{ℕ, zero, suc, ◌+◌, ◌*◌, Bool, true, cond, not, ◌&&◌, ◌||◌, List, length, ◌==◌, nat_le, nat_lt, slice_index, slice_index_or, slice_set}
+use Rattle.std.specs.Prelude.{ℕ, zero, suc, ◌+◌, ◌*◌, Bool, true, cond, not, ◌&&◌, ◌||◌, List, length, ◌==◌, nat_le, nat_lt, slice_index, slice_index_or, slice_set, Some, None}
 use Rattle.terms.specs.Terms.{Term, var, atom, pair}
 use Rattle.unification.specs.Variables.{occurs}
-use Rattle.bindings.specs.declared.Cell.{Cell}
-use Rattle.bindings.specs.declared.Cell.TheVariants.{Free, Bound}
+use Rattle.bindings.specs.Cells.{Cell}
 use Rattle.bindings.specs.Meanings.{meaning}
 use Rattle.bindings.specs.Texts.{tree, term}
 use Rattle.bindings.specs.Trails.{one_bound, bound_count, trail_within, none_bound}
@@ -42,14 +41,14 @@ declares? text v p = spans? text p (tree text p) && within? v (tree text p)
 
 -- at a free cell there is no link to follow
 abbrev pub back_from : Cell → List Cell → ℕ → (ℕ → List Cell × ℕ) → List Cell × ℕ
-back_from Free cells h older = (cells, h)
-back_from (Bound p l b) cells h older = older b
+back_from None cells h older = (cells, h)
+back_from (Some b) cells h older = older b.before
 
 -- the cells and the newest bound one after at most n links back from h, no further than m
 unfoldable pub back_within : ℕ → List Cell → ℕ → ℕ → List Cell × ℕ
 back_within zero cells h m = (cells, h)
 back_within (suc n) cells h m =
-    cond (h == m) (cells, h) (back_from (slice_index_or cells h Free) cells h (λ b. back_within n (slice_set cells h Free) b m))
+    cond (h == m) (cells, h) (back_from (slice_index_or cells h None) cells h (λ b. back_within n (slice_set cells h None) b m))
 
 -- the cells after going back link by link from the newest bound one h to the mark m
 unfoldable pub undone : List Cell → ℕ → ℕ → List Cell
@@ -58,7 +57,7 @@ undone cells h m = (back_within (length cells) cells h m).0
 -- the mark m is no free cell, and the links back from the newest bound one h lead to it
 unfoldable pub marked? : List Cell → ℕ → ℕ → Bool
 marked? cells h m =
-    (nat_le (length cells) m || one_bound (slice_index_or cells m Free) == 1) && (back_within (length cells) cells h m).1 == m
+    (nat_le (length cells) m || one_bound (slice_index_or cells m None) == 1) && (back_within (length cells) cells h m).1 == m
 
 -- ── the trail ──
 
@@ -68,18 +67,19 @@ ended? cells h = h == none_bound && bound_count cells == 0
 
 -- the cell h is free and ends the chain, or is in use and bound to a term that stands and is right, and the rest is too
 abbrev pub linked_by? : Cell → List ℕ → ℕ → List Cell → ℕ → (ℕ → Term → Bool) → (ℕ → Bool) → Bool
-linked_by? Free text used cells h right rest = ended? cells h
-linked_by? (Bound p l b) text used cells h right rest =
-    nat_lt h used && (stands? text used p l && (right b (term text p l) && rest b))
+linked_by? None text used cells h right rest = ended? cells h
+linked_by? (Some b) text used cells h right rest =
+    nat_lt h used
+    && (stands? text used b.term.place b.term.level && (right b.before (term text b.term.place b.term.level) && rest b.before))
 
 -- the chain of at most n links from h goes over each bound cell once; each binding is of a cell in use, to a term that
 -- stands in the text over cells in use and in which that cell does not occur
 unfoldable pub linked? : ℕ → List ℕ → ℕ → List Cell → ℕ → Bool
 linked? zero text used cells h = ended? cells h
 linked? (suc n) text used cells h =
-    linked_by? (slice_index_or cells h Free) text used cells h
-    (λ b t. not (occurs h (meaning (trail_within n text (slice_set cells h Free) b) t)))
-    (λ b. linked? n text used (slice_set cells h Free) b)
+    linked_by? (slice_index_or cells h None) text used cells h
+    (λ b t. not (occurs h (meaning (trail_within n text (slice_set cells h None) b) t)))
+    (λ b. linked? n text used (slice_set cells h None) b)
 
 -- the text, the cells, of which so many are in use, and the newest bound one are in order
 unfoldable pub sound? : List ℕ → ℕ → List Cell → ℕ → Bool

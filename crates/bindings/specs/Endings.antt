@@ -3,7 +3,7 @@ use Rattle.std.specs.Prelude.{◌≡◌, ℕ, ◌+◌, Bool, true, false, List, 
 use Rattle.std.proofs.Math.Option.{Option, none, some}
 use Rattle.terms.specs.Terms.{Term}
 use Rattle.unification.specs.Substitutions.{Substitution, apply}
-use Rattle.bindings.specs.declared.Cell.{Cell}
+use Rattle.bindings.specs.Cells.{Cell}
 use Rattle.bindings.specs.Meanings.{meaning}
 use Rattle.bindings.specs.Trails.{free_count, trail, Sound}
 

@@ -1,3 +1,4 @@
+pub mod Cells
 pub mod Meanings
 pub mod Texts
 pub mod Trails

@@ -3,21 +3,26 @@
 #![tactic(auto)]
 
 // A term: a place in the text, and the cell of its variable 0.
-#[derive(Clone, Copy)]
+#[derive(Clone, Copy, PartialEq, Eq, Debug, Default)]
 pub struct TermAt {
     pub place: u16,
     pub level: u16,
 }
 
-// One variable in use; a bound one also names the cell that was bound before it.
-#[derive(Clone, Copy)]
-pub enum Cell {
-    Free,
-    Bound { place: u16, level: u16, before: u16 },
+// What a variable in use is bound to, and the cell that was bound before it. A cell holds its variable's binding, or none
+// where the variable is free.
+#[derive(Clone, Copy, PartialEq, Eq, Debug)]
+pub struct Binding {
+    pub term: TermAt,
+    pub before: u16,
 }
 
+// What stands for the newest bound cell where none is bound. A number and not an Option: with an Option the loop that goes
+// back to a mark has a second case that never comes, and each cell takes two bytes more.
+pub const NONE_BOUND: u16 = 0xFFFF;
+
 // The form of a term under the bindings: what it shows when bound cells are looked up.
-#[derive(Clone, Copy)]
+#[derive(Clone, Copy, PartialEq, Eq, Debug)]
 pub enum Shape {
     // a cell without a binding
     Open(u16),

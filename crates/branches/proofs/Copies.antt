@@ -116,11 +116,6 @@ copied_rules text p (t ∷ ts) a h =
 
 -- ── one rule more ──
 
-pub take_push : {A : Type 0} (ts : List A) (i : ℕ) (d : A) → i < length ts → take (suc i) ts ≡ take i ts ++ (get_or ts i d ∷ [])
-take_push [] i d l = absurd (omega (arith, l))
-take_push (t ∷ ts) zero d l = refl
-take_push (t ∷ ts) (suc i) d l = ap (λ xs. t ∷ xs) (take_push ts i d (omega (arith, l)))
-
 pub flat_push : (ts : List (List ℕ)) (t : List ℕ) → flat (ts ++ (t ∷ [])) ≡ flat ts ++ t
 flat_push [] t = append-nil t
 flat_push (u ∷ ts) t = ap (λ (xs : List ℕ). u ++ xs) (flat_push ts t) ∙ sym (append_assoc u (flat ts) t)

@@ -1,5 +1,5 @@
 -- What is due at a place, by what stands in the tables. Assumes nothing.
-use Rattle.std.proofs.Common.{◌≡◌, ℕ, zero, suc, ◌-◌, ◌<◌, ◌≤◌, Bool, cond, List, [], ◌∷◌, ◌++◌, map, length, refl, ap, ◌∙◌, ap₂, arith, le-ltb, lt-ltb}
+use Rattle.std.proofs.Common.{◌≡◌, ℕ, zero, suc, ◌-◌, ◌<◌, ◌≤◌, Bool, cond, List, [], ◌∷◌, ◌++◌, map, length, refl, ap, ◌∙◌, ap₂, arith, le-ltb, lt-ltb, Option as Maybe}
 use mathlib.Core.Option.{Option, none, some}
 use lib.ListN.{length-map}
 use Rattle.terms.specs.Terms.{Term, Rule}
@@ -10,7 +10,7 @@ use Rattle.resolution.specs.declared.Stop.TheVariants.{Deep, Cells}
 use Rattle.resolution.specs.Rules.{rule}
 use Rattle.resolution.specs.Lines.{stop, landed}
 use Rattle.resolution.proofs.Turns.{stop_deep, stop_cells, stop_none}
-use Rattle.bindings.specs.declared.Cell.{Cell}
+use Rattle.bindings.specs.Cells.{Cell}
 use Rattle.bindings.specs.Meanings.{meaning}
 use Rattle.bindings.specs.Texts.{tree, term}
 use Rattle.bindings.specs.Trails.{trail}
@@ -24,7 +24,7 @@ use Rattle.branches.specs.Rows.{row}
 use Rattle.branches.specs.Clauses.{clause, rule_at, rules_at}
 use Rattle.branches.specs.Branches.{later, behind, remaining, At, branch, place, InOrder}
 use Rattle.branches.specs.Moves.{due_unless, due_for, due_at, attempted_if, attempted}
-use Rattle.branches.proofs.Remaining.{behind_none, remaining_first}
+use Rattle.branches.proofs.Remaining.{remaining_first}
 
 pub branch_length : (text : List ℕ) (ss : List Step) (cells : List Cell) (h : ℕ) → length (branch text ss cells h) ≡ length ss
 unfolding branch
@@ -49,9 +49,10 @@ module _ (text : List ℕ) (cs : List Clause) (v : ℕ) (a : At) (order : InOrde
   other_goals = map (meaning (trail text a.cells a.newest)) (later (remaining text a.steps a.goals))
 
   no_goals : a.goals.left ≡ 0 → (place text a).goals ≡ []
+  unfolding behind
   no_goals e =
       ap (map (meaning (trail text a.cells a.newest)))
-      (ap₂ (λ (n k : ℕ). map (shifted a.goals.level) (row text a.goals.place n) ++ behind text a.steps k) e (order.bare e) ∙ behind_none text a.steps)
+      (ap₂ (λ (n : ℕ) (k : Maybe ℕ). map (shifted a.goals.level) (row text a.goals.place n) ++ behind text a.steps k) e (order.bare e))
 
   pub goals_are : 1 ≤ a.goals.left → (place text a).goals ≡ first_goal ∷ other_goals
   goals_are l = by a.goals.left refl l

@@ -1,19 +1,19 @@
 -- The moves of a search in its tables, and what they are by the definition. Assumes nothing.
-use Rattle.std.proofs.Common.{◌≡◌, ℕ, zero, suc, ◌+◌, ◌<◌, ◌≤◌, true, List, [], ◌∷◌, ◌++◌, map, length, get_or, sym, refl, ap, ◌∙◌, subst, ap₂, append-nil, le_refl, arith}
+use Rattle.std.proofs.Common.{◌≡◌, ℕ, zero, suc, ◌+◌, ◌<◌, ◌≤◌, true, List, [], ◌∷◌, ◌++◌, map, length, get_or, sym, refl, ap, ◌∙◌, subst, ap₂, append-nil, map-id, le_refl, arith, Some, None, IfSome}
 use mathlib.Core.Option.{some}
-use Rattle.terms.specs.Terms.{Term, var, atom, pair}
+use Rattle.terms.specs.Terms.{Term}
 use Rattle.unification.specs.Variables.{shifted}
 use Rattle.unification.specs.Substitutions.{Substitution, apply}
 use Rattle.resolution.specs.Cells.{fresh}
 use Rattle.resolution.specs.Lines.{Step as Taken, Place, landed}
 use Rattle.resolution.proofs.Cells.{map-append}
-use Rattle.bindings.specs.declared.Cell.{Cell}
-use Rattle.bindings.specs.declared.Cell.TheVariants.{Free}
+use Rattle.bindings.specs.Cells.{Cell}
 use Rattle.bindings.specs.Meanings.{Trail, meaning}
 use Rattle.bindings.specs.Texts.{term}
 use Rattle.bindings.specs.Trails.{trail, Since, Sound, none_bound}
 use Rattle.bindings.specs.Presents.{presents}
 use Rattle.bindings.specs.Checks.{undone}
+use Rattle.bindings.proofs.Texts.{shifted_zero}
 use Rattle.bindings.proofs.Links.{free_trail, free_sound}
 use Rattle.bindings.proofs.Presents.{meaning_fresh, presents_length, map_apply}
 use Rattle.branches.specs.declared.Goals.{Goals}
@@ -24,7 +24,7 @@ use Rattle.branches.specs.Clauses.{clause, rule_at, Stated}
 use Rattle.branches.specs.Branches.{later, behind, remaining, At, taken, branch, place, RowKept, Kept, InOrder}
 use Rattle.branches.specs.Moves.{off}
 use Rattle.branches.proofs.Rows.{standing_more, declared_standing}
-use Rattle.branches.proofs.Remaining.{behind_newest, remaining_older, remaining_first}
+use Rattle.branches.proofs.Remaining.{below_more, behind_newest, remaining_older, remaining_first}
 
 placed : {gs hs : List Term} {cs ds : List Term} {bs es : List Taken} (n : ℕ) → gs ≡ hs → cs ≡ ds → bs ≡ es
     → ◌≡◌ {A = Place} (record { goals = gs; due = n; cells = cs; branch = bs }) (record { goals = hs; due = n; cells = ds; branch = es })
@@ -36,30 +36,21 @@ placed {gs} {hs} {cs} {ds} {bs} {es} n g c b =
 
 shifted_none : (ts : List Term) → map (shifted 0) ts ≡ ts
 shifted_none [] = refl
-shifted_none (t ∷ ts) = ap₂ ◌∷◌ (by t) (shifted_none ts)
-  where
-    by : (t : Term) → shifted 0 t ≡ t
-    by (var x) = ap var (omega arith)
-    by (atom a) = refl
-    by (pair s t) = ap₂ pair (by s) (by t)
+shifted_none (t ∷ ts) = ap₂ ◌∷◌ (shifted_zero t) (shifted_none ts)
 
-meaning_none : (ts : List Term) → map (meaning []) ts ≡ ts
-meaning_none [] = refl
-meaning_none (t ∷ ts) = ap (λ (us : List Term). t ∷ us) (meaning_none ts)
-
-module _ (text : List ℕ) (v body n : ℕ) (cells : List Cell) (free : (i : ℕ) → get_or cells i Free ≡ Free) where
+module _ (text : List ℕ) (v body n : ℕ) (cells : List Cell) (free : (i : ℕ) → get_or cells i None ≡ None) where
   -- where a search stands at opening: no step, no bound cell, and the query's goals
   abbrev pub at_start : At
   at_start =
-      record { steps = []; cells = cells; newest = none_bound; used = v; goals = record { place = body; level = 0; left = n; above = 0 }; due = 0 }
+      record { steps = []; cells = cells; newest = none_bound; used = v; goals = record { place = body; level = 0; left = n; above = None }; due = 0 }
 
   pub start_place : place text at_start ≡ record { goals = row text body n; due = 0; cells = fresh 0 v; branch = [] }
   unfolding behind branch
   start_place =
       let none : trail text cells none_bound ≡ [] = free_trail text cells free in
       placed 0
-      (ap (λ (L : Trail). map (meaning L) (map (shifted 0) (row text body n) ++ [])) none ∙ meaning_none _ ∙ append-nil _ ∙ shifted_none _)
-      (ap (λ (L : Trail). presents L v) none ∙ meaning_none (fresh 0 v)) refl
+      (ap (λ (L : Trail). map (meaning L) (map (shifted 0) (row text body n) ++ [])) none ∙ map-id _ ∙ append-nil _ ∙ shifted_none _)
+      (ap (λ (L : Trail). presents L v) none ∙ map-id (fresh 0 v)) refl
 
   pub start_in_order : (cs : List Clause) → length text < 65536 → v ≤ length cells → length cells ≤ none_bound → Declared text v body n → InOrder text cs v at_start
   unfolding Kept
@@ -67,7 +58,7 @@ module _ (text : List ℕ) (v body n : ℕ) (cells : List Cell) (free : (i : ℕ
       record {
         sound = free_sound text v cells short room few free;
         kept = refl;
-        row = record { standing = declared_standing text v 0 v body n (omega arith) d; above = omega arith };
+        row = record { standing = declared_standing text v 0 v body n (omega arith) d; above = tt };
         bare = λ e. refl;
       }
 
@@ -153,20 +144,20 @@ module _ (text : List ℕ) (cs : List Clause) (v : ℕ) (a : At) (c : Clause) (�
   )
 
   -- A rule with goals has them first; behind them is what was behind the goal.
-  pub with_goals : g' ≡ record { place = c.body; level = a.used; left = c.goals; above = suc (length a.steps) }
+  pub with_goals : g' ≡ record { place = c.body; level = a.used; left = c.goals; above = Some (length a.steps) }
       → remaining text (new_step ∷ a.steps) g' ≡ map (shifted a.used) (row text c.body c.goals) ++ later (remaining text a.steps a.goals)
   with_goals e =
       ap (remaining text (new_step ∷ a.steps)) e
       ∙ ap (λ (ts : List Term). map (shifted a.used) (row text c.body c.goals) ++ ts) (behind_newest text new_step a.steps)
 
-  pub with_goals_kept : Stated text c → g' ≡ record { place = c.body; level = a.used; left = c.goals; above = suc (length a.steps) }
+  pub with_goals_kept : Stated text c → g' ≡ record { place = c.body; level = a.used; left = c.goals; above = Some (length a.steps) }
       → RowKept text (a.used + c.variables) (new_step ∷ a.steps) g'
   with_goals_kept d e =
       subst (RowKept text (a.used + c.variables) (new_step ∷ a.steps)) (sym e)
       (record { standing = declared_standing text c.variables a.used (a.used + c.variables) c.body c.goals (le_refl _) d.goals; above = le_refl _ })
 
   -- A rule without goals leaves what was behind the goal.
-  pub without_goals : c.goals ≡ 0 → a.goals.above ≤ length a.steps
+  pub without_goals : c.goals ≡ 0 → IfSome a.goals.above (λ k. k < length a.steps)
       → remaining text (new_step ∷ a.steps) g' ≡ later (remaining text (new_step ∷ a.steps) a.goals)
       → remaining text (new_step ∷ a.steps) g' ≡ map (shifted a.used) (row text c.body c.goals) ++ later (remaining text a.steps a.goals)
   without_goals e l r =
@@ -178,5 +169,5 @@ module _ (text : List ℕ) (cs : List Clause) (v : ℕ) (a : At) (c : Clause) (�
   still_kept k =
       record {
         standing = standing_more text a.used (a.used + c.variables) a.goals.place a.goals.level a.goals.left (omega arith) k.standing;
-        above = omega (arith, k.above);
+        above = below_more a.goals.above (length a.steps) (length (new_step ∷ a.steps)) (omega arith) k.above;
       }

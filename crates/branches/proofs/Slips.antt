@@ -3,7 +3,7 @@ use Rattle.std.proofs.Common.{◌≡◌, ℕ, ◌+◌, ◌<◌, ◌≤◌, List,
 use Rattle.terms.specs.Terms.{Term, Rule}
 use Rattle.slips.specs.Slips.{SlipStep, steps_of, step_bytes, steps_bytes}
 use Rattle.slips.proofs.Own.{steps_bytes_end}
-use Rattle.bindings.specs.declared.Cell.{Cell}
+use Rattle.bindings.specs.Cells.{Cell}
 use Rattle.bindings.specs.Checks.{undone}
 use Rattle.bindings.specs.Trails.{trail}
 use Rattle.bindings.proofs.Presents.{presents_length}

@@ -1,8 +1,8 @@
 -- The tests hold exactly where what they test holds. Assumes nothing.
-use Rattle.std.proofs.Common.{◌≡◌, ℕ, zero, suc, ◌<◌, Bool, true, cond, eqb, List, [], ◌∷◌, length, sym, refl, ap, ◌∙◌, arith, ltb-true, lt-ltb, eq-eqb, eqb-true, le-leb, leb-true}
+use Rattle.std.proofs.Common.{◌≡◌, ℕ, zero, suc, ◌<◌, Bool, true, cond, eqb, List, [], ◌∷◌, length, sym, refl, ap, ◌∙◌, arith, ltb-true, lt-ltb, eq-eqb, eqb-true, le-leb, leb-true, Option, Some, None, IfSome, is_none, true≢false}
 use Rattle.std.proofs.lemmas.Bool.{and_from, and_parts}
 use Rattle.unification.proofs.Choice.{cond_at}
-use Rattle.bindings.specs.declared.Cell.{Cell}
+use Rattle.bindings.specs.Cells.{Cell}
 use Rattle.bindings.specs.Checks.{undone}
 use Rattle.bindings.proofs.Checks.{stands_true, true_stands, declares_true, true_declares, since_true, true_since, sound_true, true_sound}
 use Rattle.branches.specs.declared.Goals.{Goals}
@@ -11,7 +11,7 @@ use Rattle.branches.specs.declared.Clause.{Clause}
 use Rattle.branches.specs.Rows.{after, Declared, Standing}
 use Rattle.branches.specs.Clauses.{clause, Stated}
 use Rattle.branches.specs.Branches.{At, RowKept, StepKept, Kept, InOrder}
-use Rattle.branches.specs.Tests.{declared?, standing?, stated?, all_stated?, row_kept?, step_kept?, kept?, bare?, in_order?}
+use Rattle.branches.specs.Tests.{declared?, standing?, stated?, all_stated?, below?, row_kept?, step_kept?, kept?, bare?, in_order?}
 
 module _ (text : List ℕ) where
   pub declared_true : (v p n : ℕ) → Declared text v p n → declared? text v p n ≡ true
@@ -52,14 +52,24 @@ module _ (text : List ℕ) where
 
   -- ── goals and steps ──
 
+  below_true : (o : Option ℕ) (n : ℕ) → IfSome o (λ k. k < n) → below? o n ≡ true
+  unfolding below?
+  below_true None n h = refl
+  below_true (Some k) n h = lt-ltb k n h
+
+  true_below : (o : Option ℕ) (n : ℕ) → below? o n ≡ true → IfSome o (λ k. k < n)
+  unfolding below?
+  true_below None n e = tt
+  true_below (Some k) n e = ltb-true k n e
+
   pub row_true : (used : ℕ) (ss : List Step) (g : Goals) → RowKept text used ss g → row_kept? text used ss g ≡ true
   unfolding row_kept?
-  row_true used ss g r = and_from _ _ (standing_true used g.place g.level g.left r.standing) (le-leb _ _ r.above)
+  row_true used ss g r = and_from _ _ (standing_true used g.place g.level g.left r.standing) (below_true _ _ r.above)
 
   pub true_row : (used : ℕ) (ss : List Step) (g : Goals) → row_kept? text used ss g ≡ true → RowKept text used ss g
   unfolding row_kept?
   true_row used ss g e =
-      let b = and_parts _ _ e in record { standing = true_standing used g.place g.level g.left b.0; above = leb-true _ _ b.1 }
+      let b = and_parts _ _ e in record { standing = true_standing used g.place g.level g.left b.0; above = true_below _ _ b.1 }
 
   module _ (cs : List Clause) where
     step_true : (s : Step) (ss : List Step) (cells : List Cell) (h used : ℕ) → StepKept text cs s ss cells h used → step_kept? text cs s ss cells h used ≡ true
@@ -110,8 +120,8 @@ module _ (text : List ℕ) where
           (and_from _ _ (kept_true a.steps a.cells a.newest a.used o.kept)
           (and_from _ _ (row_true a.used a.steps a.goals o.row) (bare_true a.goals o.bare)))
         where
-          bare_true : (g : Goals) → (g.left ≡ 0 → g.above ≡ 0) → bare? g ≡ true
-          bare_true g f = cond_at (λ (b : Bool). b ≡ true) (eqb g.left 0) (λ e. eq-eqb _ _ (f (eqb-true _ _ e))) (λ e. refl)
+          bare_true : (g : Goals) → (g.left ≡ 0 → g.above ≡ None) → bare? g ≡ true
+          bare_true g f = cond_at (λ (b : Bool). b ≡ true) (eqb g.left 0) (λ e. ap is_none (f (eqb-true _ _ e))) (λ e. refl)
 
       pub true_in_order : (a : At) → in_order? text cs v a ≡ true → InOrder text cs v a
       unfolding in_order? bare?
@@ -126,7 +136,11 @@ module _ (text : List ℕ) where
             bare = true_bare a.goals d.1;
           }
         where
-          true_bare : (g : Goals) → bare? g ≡ true → g.left ≡ 0 → g.above ≡ 0
+          nothing : (o : Option ℕ) → is_none o ≡ true → o ≡ None
+          nothing None e = refl
+          nothing (Some k) e = absurd (true≢false (sym e))
+
+          true_bare : (g : Goals) → bare? g ≡ true → g.left ≡ 0 → g.above ≡ None
           true_bare g e z =
               let b : eqb g.left 0 ≡ true = eq-eqb _ _ z in
-              eqb-true _ _ (sym (ap (λ (t : Bool). cond t (eqb g.above 0) true) b) ∙ e)
+              nothing g.above (sym (ap (λ (t : Bool). cond t (is_none g.above) true) b) ∙ e)

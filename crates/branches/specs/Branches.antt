@@ -1,9 +1,9 @@
 -- What the goals that remain and the steps of a branch mean. A branch is a list of steps, the newest first. Assumes nothing.
-use Rattle.std.specs.Prelude.{◌≡◌, ℕ, suc, ◌+◌, ◌<◌, ◌≤◌, cond, List, [], ◌∷◌, ◌++◌, map, length, ◌==◌}
+use Rattle.std.specs.Prelude.{◌≡◌, ℕ, ◌+◌, ◌<◌, ◌≤◌, cond, List, [], ◌∷◌, ◌++◌, map, length, ◌==◌, Option, Some, None, IfSome}
 use Rattle.terms.specs.Terms.{Term}
 use Rattle.unification.specs.Variables.{shifted}
 use Rattle.resolution.specs.Lines.{Step as Taken, Place}
-use Rattle.bindings.specs.declared.Cell.{Cell}
+use Rattle.bindings.specs.Cells.{Cell}
 use Rattle.bindings.specs.Meanings.{meaning}
 use Rattle.bindings.specs.Texts.{term}
 use Rattle.bindings.specs.Trails.{trail, Since, Sound}
@@ -26,10 +26,12 @@ later (t ∷ ts) = ts
 abbrev pub own : List ℕ → Goals → List Term
 own text g = map (shifted g.level) (row text g.place g.left)
 
--- the goals that remained behind that of the step with the number k, counted from 1
-unfoldable pub behind : List ℕ → List Step → ℕ → List Term
-behind text [] k = []
-behind text (s ∷ ss) k = cond (k == suc (length ss)) (later (own text s.goals ++ behind text ss s.goals.above)) (behind text ss k)
+-- the goals that remained behind that of the step with this number, which counts from 0; without one there are none
+unfoldable pub behind : List ℕ → List Step → Option ℕ → List Term
+behind text ss None = []
+behind text [] (Some k) = []
+behind text (s ∷ ss) (Some k) =
+    cond (k == length ss) (later (own text s.goals ++ behind text ss s.goals.above)) (behind text ss (Some k))
 
 -- all goals that remain
 abbrev pub remaining : List ℕ → List Step → Goals → List Term
@@ -76,7 +78,7 @@ place text a =
 -- a row of goals stands over cells in use, and goes on behind a step of the branch
 pub record RowKept (text : List ℕ) (used : ℕ) (ss : List Step) (g : Goals) : Type 0 where
   pub standing : Standing text used g.place g.level g.left
-  pub above : g.above ≤ length ss
+  pub above : IfSome g.above (λ k. k < length ss)
 
 -- the step s on the branch ss: its mark leads back to cells in order, over which its goals stood; its rule's cells came next
 pub record StepKept (text : List ℕ) (cs : List Clause) (s : Step) (ss : List Step) (cells : List Cell) (h used : ℕ) : Type 0 where
@@ -98,4 +100,4 @@ pub record InOrder (text : List ℕ) (cs : List Clause) (v : ℕ) (a : At) : Typ
   pub sound : Sound text a.used a.cells a.newest
   pub kept : Kept text cs v a.steps a.cells a.newest a.used
   pub row : RowKept text a.used a.steps a.goals
-  pub bare : a.goals.left ≡ 0 → a.goals.above ≡ 0
+  pub bare : a.goals.left ≡ 0 → a.goals.above ≡ None

@@ -1,6 +1,6 @@
 -- Tests whether clauses stand in the text, and whether goals, steps and cells are in order. Assumes nothing.
-use Rattle.std.specs.Prelude.{ℕ, zero, suc, ◌+◌, Bool, true, cond, ◌&&◌, List, [], ◌∷◌, length, ◌==◌, nat_le, nat_lt}
-use Rattle.bindings.specs.declared.Cell.{Cell}
+use Rattle.std.specs.Prelude.{ℕ, zero, suc, ◌+◌, Bool, true, cond, ◌&&◌, List, [], ◌∷◌, length, ◌==◌, nat_le, nat_lt, Option, Some, None, is_none}
+use Rattle.bindings.specs.Cells.{Cell}
 use Rattle.bindings.specs.Checks.{stands?, declares?, undone, marked?, sound?}
 use Rattle.branches.specs.declared.Goals.{Goals}
 use Rattle.branches.specs.declared.Step.{Step}
@@ -27,9 +27,14 @@ unfoldable pub all_stated? : List ℕ → List Clause → Bool
 all_stated? text [] = true
 all_stated? text (c ∷ cs) = stated? text c && all_stated? text cs
 
+-- where there is a number, it is below n
+unfoldable pub below? : Option ℕ → ℕ → Bool
+below? None n = true
+below? (Some k) n = nat_lt k n
+
 -- a row of goals stands over cells in use, and goes on behind a step of the branch
 unfoldable pub row_kept? : List ℕ → ℕ → List Step → Goals → Bool
-row_kept? text used ss g = standing? text used g.place g.level g.left && nat_le g.above (length ss)
+row_kept? text used ss g = standing? text used g.place g.level g.left && below? g.above (length ss)
 
 -- the step s on the branch ss is in order
 unfoldable pub step_kept? : List ℕ → List Clause → Step → List Step → List Cell → ℕ → ℕ → Bool
@@ -49,7 +54,7 @@ kept? text cs v (s ∷ ss) cells h used =
 
 -- a row without goals goes on nowhere
 unfoldable pub bare? : Goals → Bool
-bare? g = cond (g.left == 0) (g.above == 0) true
+bare? g = cond (g.left == 0) (is_none g.above) true
 
 -- all of it is in order
 unfoldable pub in_order? : List ℕ → List Clause → ℕ → At → Bool

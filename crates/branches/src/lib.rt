@@ -6,17 +6,17 @@
 use resolution::Stop;
 
 // A row of goals: so many from a place of the text on, with the cells from `level` on. After them come the goals that
-// remained behind the goal of a step; `above` is that step's number counted from 1, or 0 where nothing more remains.
-#[derive(Clone, Copy)]
+// remained behind the goal of a step; `above` is that step's number, or none where nothing more remains.
+#[derive(Clone, Copy, PartialEq, Eq, Debug, Default)]
 pub struct Goals {
     pub place: u16,
     pub level: u16,
     pub left: u8,
-    pub above: u16,
+    pub above: Option<u16>,
 }
 
 // A rule was taken on the first of these goals. Its cells begin at `level`, and `mark` was the newest bound cell before it.
-#[derive(Clone, Copy)]
+#[derive(Clone, Copy, PartialEq, Eq, Debug, Default)]
 pub struct Step {
     pub rule: u16,
     pub goals: Goals,
@@ -25,7 +25,7 @@ pub struct Step {
 }
 
 // Where a rule's head and its goals stand in the text, how many variables it declares, and how many goals it has.
-#[derive(Clone, Copy)]
+#[derive(Clone, Copy, PartialEq, Eq, Debug, Default)]
 pub struct Clause {
     pub head: u16,
     pub body: u16,
@@ -34,7 +34,7 @@ pub struct Clause {
 }
 
 // What is due at a place of the search.
-#[derive(Clone, Copy)]
+#[derive(Clone, Copy, PartialEq, Eq)]
 pub enum Due {
     // no goal remains
     Nothing,

@@ -1,20 +1,17 @@
 // The calls on a search.
-ghost use Rattle.std.specs.Prelude.{◌≡◌, ℕ, ◌+◌, ◌≤◌, IfOk};
+ghost use Rattle.std.specs.Prelude.{◌≡◌, ◌+◌, IfOk};
 ghost use Rattle.reading.specs.Views.{seen};
 ghost use Rattle.resolution.specs.Search.{opened, held, condition_after, answers_after, next as definition_next, rewind as definition_rewind, tally as definition_tally};
 ghost use Rattle.slips.specs.Opening.{opening};
-ghost use Rattle.machine.specs.Machines.{place};
 ghost use Rattle.engine.specs.Models.{condition_of, rules_of, query_of, model, opened_with};
 
 use crate::search::{Condition, Search};
 use branches::Due;
 use machine::machine::Machine;
+use resolution::limits::MOST_TRIES;
 use resolution::{Outcome, Refusal, Tally, Word};
 use slips::faults::OpeningFault;
 use stores::stores::Store;
-
-// the most tries that one call may be allowed
-const MOST_TRIES: u32 = 1_000_000;
 
 // What a call says that makes no try.
 fn at_once(word: Word) -> Outcome
@@ -23,11 +20,11 @@ fn at_once(word: Word) -> Outcome
     Outcome { word, tries: 0 }
 }
 
-impl Condition {
-    // The condition that a word leaves.
-    fn after(word: Word) -> Condition
-        ensures { condition_of result ≡ condition_after word }
-    {
+// The condition that a word leaves.
+impl From<Word> for Condition {
+    ghost from_gives = { λ word condition. condition_of condition ≡ condition_after word };
+
+    fn from(word: Word) -> Condition {
         match word {
             Word::Answer => Condition::Standing,
             Word::Spent => Condition::Running,
@@ -59,14 +56,15 @@ impl Search {
         ensures tries { self.new.tries ≡ held (self.old.tries + tries) }
         ensures answers { self.new.answers ≡ answers_after word self.old.answers }
     {
-        self.condition = Condition::after(word);
+        self.condition = Condition::from(word);
         self.tries = self.tries.saturating_add(tries);
-        if let Word::Answer = word {
+        if word == Word::Answer {
             self.answers = self.answers.saturating_add(1);
         }
     }
 
-    // Goes on until a line ends the call; it may make so many tries.
+    // Goes on until a line ends the call; it may make so many tries. That rules and query stay is a clause of every method that
+    // changes the search: no type says it of a part of a value.
     pub fn next(&mut self, allowance: u32) -> Result<Outcome, Refusal>
         ensures result { result ≡ (definition_next (rules_of self.old) allowance (model self.old)).result }
         ensures search { model self.new ≡ (definition_next (rules_of self.old) allowance (model self.old)).search }
@@ -78,31 +76,25 @@ impl Search {
         }
         let mut tries = 0;
         let word = 'lines: loop {
-            match (self.condition, self.machine.due()) {
-                (Condition::Ended, _) => return Ok(at_once(Word::NoMore)),
-                (Condition::Stopped(why), _) => return Ok(at_once(Word::Stopped(why))),
-                (Condition::Standing, _) => {
+            match (self.condition, self.machine.due(), tries == allowance) {
+                (Condition::Ended, _, _) => return Ok(at_once(Word::NoMore)),
+                (Condition::Stopped(why), _, _) => return Ok(at_once(Word::Stopped(why))),
+                (Condition::Standing, _, _) => {
                     if !self.machine.back() {
                         break 'lines Word::NoMore;
                     }
                     self.condition = Condition::Running;
                 }
-                (Condition::Running, Due::Nothing) => break 'lines Word::Answer,
-                (Condition::Running, Due::NoRule) => {
+                (Condition::Running, Due::Nothing, _) => break 'lines Word::Answer,
+                (Condition::Running, Due::NoRule, _) => {
                     if !self.machine.back() {
                         break 'lines Word::NoMore;
                     }
                 }
-                (Condition::Running, Due::Stop(why)) => {
-                    if tries == allowance {
-                        break 'lines Word::Spent;
-                    }
-                    break 'lines Word::Stopped(why);
-                }
-                (Condition::Running, Due::Rule) => {
-                    if tries == allowance {
-                        break 'lines Word::Spent;
-                    }
+                (Condition::Running, Due::Stop(_), true) => break 'lines Word::Spent,
+                (Condition::Running, Due::Stop(why), false) => break 'lines Word::Stopped(why),
+                (Condition::Running, Due::Rule, true) => break 'lines Word::Spent,
+                (Condition::Running, Due::Rule, false) => {
                     self.machine.attempt();
                     tries += 1;
                 }

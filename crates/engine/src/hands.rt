@@ -33,20 +33,20 @@ impl Answer<'_> {
     pub fn answer(&self, buffer: &mut [u8]) -> Result<usize, WriteRefusal>
         ensures { wrote result buffer.new ≡ written (answer_bytes (slip_of (rules_of self.now.search.now) (query_of self.now.search.now) (model self.now.search.now).place)) buffer.old }
     {
-        match self.search.machine.write_answer(buffer) {
-            Some(length) => Ok(length),
-            None => Err(WriteRefusal::NoRoom),
-        }
+        self.search
+            .machine
+            .write_answer(buffer)
+            .ok_or(WriteRefusal::NoRoom)
     }
 
-    // The same for the slip.
+    // The same for the slip. Callers know the two by their names; below them there is one function that writes.
     pub fn slip(&self, buffer: &mut [u8]) -> Result<usize, WriteRefusal>
         ensures { wrote result buffer.new ≡ written (slip_bytes (slip_of (rules_of self.now.search.now) (query_of self.now.search.now) (model self.now.search.now).place)) buffer.old }
     {
-        match self.search.machine.write_slip(buffer) {
-            Some(length) => Ok(length),
-            None => Err(WriteRefusal::NoRoom),
-        }
+        self.search
+            .machine
+            .write_slip(buffer)
+            .ok_or(WriteRefusal::NoRoom)
     }
 }
 
@@ -55,8 +55,7 @@ impl Search {
     pub(crate) fn held(&self) -> Result<(), WriteRefusal>
         ensures { result ≡ definition_hold (model self.now).condition }
     {
-        let _ = self.hold()?;
-        Ok(())
+        self.hold().map(|_| ())
     }
 
     // Holds the answer and writes it.
@@ -66,6 +65,7 @@ impl Search {
         self.hold()?.answer(buffer)
     }
 
+    // The same for the slip; one function for both would take the method to call, and be no plainer.
     pub(crate) fn write_slip(&self, buffer: &mut [u8]) -> Result<usize, WriteRefusal>
         ensures { wrote result buffer.new ≡ written_if (definition_hold (model self.now).condition) (slip_bytes (slip_of (rules_of self.now) (query_of self.now) (model self.now).place)) buffer.old }
     {

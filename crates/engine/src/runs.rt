@@ -15,7 +15,7 @@ use slips::faults::OpeningFault;
 use stores::stores::Store;
 
 impl Search {
-    // Carries out the call of a slot.
+    // Carries out the call of a slot. The calls are a closed set, which a caller names; that rules and query stay is said here too.
     pub fn carry(&mut self, slot: &mut Slot)
         ensures returned { returned slot.new ≡ some (reply (rules_of self.old) (query_of self.old) (asked slot.old) (model self.old)) }
         ensures search { model self.new ≡ after (rules_of self.old) (query_of self.old) (asked slot.old) (model self.old) }

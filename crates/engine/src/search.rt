@@ -3,7 +3,7 @@ use machine::machine::Machine;
 use resolution::Stop;
 
 // Whether the search goes on, has an answer standing, has ended, or was stopped for good.
-#[derive(Clone, Copy)]
+#[derive(Clone, Copy, PartialEq, Eq)]
 pub enum Condition {
     Running,
     Standing,

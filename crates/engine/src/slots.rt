@@ -2,7 +2,7 @@
 use resolution::{Outcome, Refusal, Tally};
 use slips::faults::WriteRefusal;
 
-#[derive(Clone, Copy)]
+#[derive(Clone, Copy, PartialEq, Eq, Debug)]
 pub enum Request {
     // with an allowance
     Next(u32),

@@ -1,6 +1,8 @@
 -- A try where one can be made: the tables after it are in order, and mean what the definition says. Assumes nothing.
-use Rattle.std.proofs.Common.{◌≡◌, ℕ, zero, suc, ◌+◌, ◌-◌, ◌<◌, ◌≤◌, Bool, true, false, ltb, List, ◌∷◌, ◌++◌, map, length, get_or, set, sym, refl, ap, ◌∙◌, subst, ap₂, le_refl, arith, length-set, get_or-set_other, get_or-set_same, ltb-false, ltb-true}
+use Rattle.std.proofs.Common.{◌≡◌, ℕ, zero, suc, ◌+◌, ◌-◌, ◌<◌, ◌≤◌, Bool, true, false, ltb, List, [], ◌∷◌, ◌++◌, map, reverse, length, sym, refl, ap, ◌∙◌, subst, ap₂, arith, ltb-false, ltb-true, Some, None, true≢false}
 use mathlib.Core.Option.{Option, none, some}
+use Rattle.std.proofs.lemmas.List.{length-reverse, reverse-append}
+use Rattle.machine.specs.declared.branch.Branch.{Branch}
 use Rattle.unification.specs.Variables.{shifted}
 use Rattle.unification.specs.Substitutions.{Substitution}
 use Rattle.unification.specs.Unification.{unify}
@@ -9,7 +11,6 @@ use Rattle.bindings.specs.Texts.{tree, Stands}
 use Rattle.bindings.specs.Trails.{trail, Since}
 use Rattle.bindings.specs.Presents.{presents}
 use Rattle.bindings.specs.Checks.{undone}
-use Rattle.bindings.proofs.Chains.{true_not_false}
 use Rattle.bindings.proofs.Links.{sound_mark, since_length}
 use Rattle.bindings.proofs.Checks.{since_undone}
 use Rattle.branches.specs.declared.Clause.{Clause}
@@ -18,31 +19,28 @@ use Rattle.branches.specs.declared.Step.{Step}
 use Rattle.branches.specs.declared.Due.{Due}
 use Rattle.branches.specs.declared.Due.TheVariants.{Rule as ARule}
 use Rattle.branches.specs.Rows.{row, Standing}
-use Rattle.branches.specs.Clauses.{no_clause, clause, rule_at, Stated}
+use Rattle.branches.specs.Clauses.{clause, rule_at, Stated}
 use Rattle.branches.specs.Branches.{later, remaining, At, RowKept, Kept}
 use Rattle.branches.specs.Moves.{due_at, attempted}
 use Rattle.branches.proofs.Tests.{stated_at}
 use Rattle.branches.proofs.Moves.{at_taken, taken_place, taken_kept, with_goals, with_goals_kept, without_goals, still_kept}
 use Rattle.branches.proofs.Dues.{first_goal, other_goals, attempted_is, failed_place, failed_in_order}
+use Rattle.machine.specs.Branches.{taken}
 use Rattle.machine.specs.declared.attempt.Head.{Head}
-use Rattle.machine.specs.declared.branch.Branch.{Branch}
 use Rattle.machine.specs.declared.cells.Cells.{Cells}
 use Rattle.machine.specs.declared.tables.Tables.{Tables}
-use Rattle.machine.specs.declared.state.State.{State}
 use Rattle.machine.specs.declared.text.Text.{Text}
-use Rattle.machine.specs.Branches.{no_step, newest_first}
 use Rattle.machine.specs.Climbs.{steps_in, RowOver, Climbing, Climbed}
 use Rattle.machine.specs.Tries.{first_at, found, Ready, Taken, Outcome, Tried}
-use Rattle.machine.specs.States.{text_of, clauses_of, rules_of, at_of, place_of, Good, good, SameBook}
-use Rattle.machine.proofs.Climbs.{newest_length}
-use Rattle.machine.proofs.States.{at_as, place_as, good_as, clause_count, clause_is, cells_room, nothing_due, no_rule_due, deep_due, cells_due}
+use Rattle.machine.specs.States.{State, text_of, rules_of, at_of, place_of, Good, good}
+use Rattle.machine.proofs.States.{SameBook, at_as, place_as, good_as, cells_room, nothing_due, no_rule_due, deep_due, cells_due}
 
 -- ── where a try can be made ──
 
 pub record CanTry (s : State) (c : Clause) : Type 0 where
   pub some : 1 ≤ s.goals.left
-  pub rule : s.due < s.clauses.count
-  pub shallow : s.tables.branch.depth < 512
+  pub rule : s.due < length s.clauses
+  pub shallow : length (taken s.tables.branch) < 512
   pub room : s.tables.cells.used + c.variables ≤ 2048
 
 module _ (s : State) (g : Good s) (due : due_at (rules_of s) (place_of s) ≡ ARule) where
@@ -58,23 +56,23 @@ module _ (s : State) (g : Good s) (due : due_at (rules_of s) (place_of s) ≡ AR
           let z : s.goals.left ≡ 0 = omega (arith, ltb-false 0 s.goals.left e) in
           absurd (clash (nothing_due s g z) (λ q. let w : ◌≡◌ {A = ℕ} 0 1 = cc in omega arith))
 
-  pub can_rule : s.due < s.clauses.count
-  can_rule = by (ltb s.due s.clauses.count) refl
+  pub can_rule : s.due < length s.clauses
+  can_rule = by (ltb s.due (length s.clauses)) refl
     where
-      by : (b : Bool) → ltb s.due s.clauses.count ≡ b → s.due < s.clauses.count
-      by true e = ltb-true s.due s.clauses.count e
+      by : (b : Bool) → ltb s.due (length s.clauses) ≡ b → s.due < length s.clauses
+      by true e = ltb-true s.due (length s.clauses) e
       by false e =
-          absurd (clash (no_rule_due s g can_some (ltb-false s.due s.clauses.count e)) (λ q. let w : ◌≡◌ {A = ℕ} 0 1 = cc in omega arith))
+          absurd (clash (no_rule_due s g can_some (ltb-false s.due (length s.clauses) e)) (λ q. let w : ◌≡◌ {A = ℕ} 0 1 = cc in omega arith))
 
-  can_shallow : s.tables.branch.depth < 512
-  can_shallow = by (ltb s.tables.branch.depth 512) refl
+  can_shallow : length (taken s.tables.branch) < 512
+  can_shallow = by (ltb (length (taken s.tables.branch)) 512) refl
     where
-      by : (b : Bool) → ltb s.tables.branch.depth 512 ≡ b → s.tables.branch.depth < 512
-      by true e = ltb-true s.tables.branch.depth 512 e
+      by : (b : Bool) → ltb (length (taken s.tables.branch)) 512 ≡ b → length (taken s.tables.branch) < 512
+      by true e = ltb-true (length (taken s.tables.branch)) 512 e
       by false e =
-          absurd (clash (deep_due s g can_some can_rule (ltb-false s.tables.branch.depth 512 e)) (λ q. let w : ◌≡◌ {A = ℕ} 0 1 = cc in omega arith))
+          absurd (clash (deep_due s g can_some can_rule (ltb-false (length (taken s.tables.branch)) 512 e)) (λ q. let w : ◌≡◌ {A = ℕ} 0 1 = cc in omega arith))
 
-  module _ (c : Clause) (is : c ≡ get_or s.clauses.table s.due no_clause) where
+  module _ (c : Clause) (is : c ≡ clause s.clauses s.due) where
     can_room : s.tables.cells.used + c.variables ≤ 2048
     can_room = by (ltb (2048 - s.tables.cells.used) c.variables) refl
       where
@@ -88,8 +86,8 @@ module _ (s : State) (g : Good s) (due : due_at (rules_of s) (place_of s) ≡ AR
 
     pub stated : Stated (text_of s) c
     stated =
-        subst (Stated (text_of s)) (clause_is s s.due can_rule ∙ sym is)
-        (stated_at (text_of s) (clauses_of s) s.due g.stated (omega (arith, can_rule, clause_count s g)))
+        subst (Stated (text_of s)) (sym is)
+        (stated_at (text_of s) s.clauses s.due g.stated can_rule)
 
     abbrev pub head : Head
     head = record { place = c.head; variables = c.variables }
@@ -107,24 +105,24 @@ module _ (s : State) (g : Good s) (due : due_at (rules_of s) (place_of s) ≡ AR
           room = can_room;
         }
 
-    clause_due : clause (clauses_of s) s.due ≡ c
-    clause_due = clause_is s s.due can_rule ∙ sym is
+    clause_due : clause s.clauses s.due ≡ c
+    clause_due = sym is
 
     -- what the definition makes of it
     attempted_by : attempted (rules_of s) (place_of s)
-        ≡ landed (place_of s) (rule_at (text_of s) c) (first_goal (text_of s) (clauses_of s) s.question.variables (at_of s) g.order)
-        (other_goals (text_of s) (clauses_of s) s.question.variables (at_of s) g.order) (found (text_of s) s.tables.cells head (first_at s.goals))
+        ≡ landed (place_of s) (rule_at (text_of s) c) (first_goal (text_of s) s.clauses s.question.variables (at_of s) g.order)
+        (other_goals (text_of s) s.clauses s.question.variables (at_of s) g.order) (found (text_of s) s.tables.cells head (first_at s.goals))
     attempted_by =
-        attempted_is (text_of s) (clauses_of s) s.question.variables (at_of s) g.order can_some (omega (arith, can_rule, clause_count s g)) due
-        ∙ ap (λ (x : Clause). landed (place_of s) (rule_at (text_of s) x) (first_goal (text_of s) (clauses_of s) s.question.variables (at_of s) g.order) (other_goals (text_of s) (clauses_of s) s.question.variables (at_of s) g.order) (unify (shifted s.tables.cells.used (tree (text_of s) x.head)) (first_goal (text_of s) (clauses_of s) s.question.variables (at_of s) g.order))) clause_due
+        attempted_is (text_of s) s.clauses s.question.variables (at_of s) g.order can_some can_rule due
+        ∙ ap (λ (x : Clause). landed (place_of s) (rule_at (text_of s) x) (first_goal (text_of s) s.clauses s.question.variables (at_of s) g.order) (other_goals (text_of s) s.clauses s.question.variables (at_of s) g.order) (unify (shifted s.tables.cells.used (tree (text_of s) x.head)) (first_goal (text_of s) s.clauses s.question.variables (at_of s) g.order))) clause_due
 
     -- ── the try fails ──
 
     module _ (s' : State) (book : SameBook s s') (tried : Tried (text_of s) s.tables.cells head (first_at s.goals) s'.tables.cells false)
-        (branch : s'.tables.branch ≡ s.tables.branch) (goals : s'.goals ≡ s.goals) (next : s'.due ≡ suc s.due) where
+        (steps : s'.tables.branch ≡ s.tables.branch) (goals : s'.goals ≡ s.goals) (next : s'.due ≡ suc s.due) where
       failed_by : (o : Option Substitution) → Outcome (text_of s) s.tables.cells c.variables s'.tables.cells o false → (o ≡ none) × (s'.tables.cells ≡ s.tables.cells)
       failed_by none e = (refl, e.1)
-      failed_by (some σ) e = absurd (true_not_false (sym e.0))
+      failed_by (some σ) e = absurd (true≢false (sym e.0))
 
       nothing_found : (found (text_of s) s.tables.cells head (first_at s.goals) ≡ none) × (s'.tables.cells ≡ s.tables.cells)
       nothing_found = failed_by (found (text_of s) s.tables.cells head (first_at s.goals)) tried.outcome
@@ -136,41 +134,30 @@ module _ (s : State) (g : Good s) (due : due_at (rules_of s) (place_of s) ≡ AR
       is_failed : at_of s' ≡ failed_at
       is_failed =
           let e = nothing_found.1 in
-          at_as (ap (λ (b : Branch). newest_first b.steps b.depth) branch) (ap (λ (x : Cells). x.table) e) (ap (λ (x : Cells). x.newest) e) (ap (λ (x : Cells). x.used) e) goals next
+          at_as (ap (λ (b : Branch). reverse (taken b)) steps) (ap (λ (x : Cells). x.table) e) (ap (λ (x : Cells). x.newest) e) (ap (λ (x : Cells). x.used) e) goals next
 
       pub failed_good : good s' ≡ true
       failed_good =
-          good_as s s' book failed_at is_failed g (failed_in_order (text_of s) (clauses_of s) s.question.variables (at_of s) g.order)
-          (subst (λ (b : Branch). b.depth ≤ 512) (sym branch) g.depth)
+          good_as s s' book failed_at is_failed g (failed_in_order (text_of s) s.clauses s.question.variables (at_of s) g.order)
+          (subst (λ (b : Branch). b.depth ≤ 512) (sym steps) g.depth)
           (ap (λ (x : Cells). length x.table) nothing_found.1 ∙ g.all_cells)
-          (ap (λ (b : Branch). length b.steps) branch ∙ g.all_steps)
 
       pub failed_is : place_of s' ≡ attempted (rules_of s) (place_of s)
       failed_is =
           place_as s s' book failed_at is_failed
-          ∙ failed_place (text_of s) (clauses_of s) s.question.variables (at_of s) g.order (rule_at (text_of s) c) can_some
-          ∙ sym (attempted_by ∙ ap (landed (place_of s) (rule_at (text_of s) c) (first_goal (text_of s) (clauses_of s) s.question.variables (at_of s) g.order) (other_goals (text_of s) (clauses_of s) s.question.variables (at_of s) g.order)) nothing_found.0)
+          ∙ failed_place (text_of s) s.clauses s.question.variables (at_of s) g.order (rule_at (text_of s) c) can_some
+          ∙ sym (attempted_by ∙ ap (landed (place_of s) (rule_at (text_of s) c) (first_goal (text_of s) s.clauses s.question.variables (at_of s) g.order) (other_goals (text_of s) s.clauses s.question.variables (at_of s) g.order)) nothing_found.0)
 
 -- ── the rule is taken ──
-
-newest_older : (steps : List Step) (d : ℕ) (x : Step) (m : ℕ) → m ≤ d → newest_first (set steps d x) m ≡ newest_first steps m
-unfolding newest_first
-newest_older steps d x zero l = refl
-newest_older steps d x (suc m) l =
-    ap₂ ◌∷◌ (get_or-set_other steps d m x no_step (λ e. omega (arith, l, e))) (newest_older steps d x m (omega (arith, l)))
-
-newest_set : (steps : List Step) (d : ℕ) (x : Step) → d < length steps → newest_first (set steps d x) (suc d) ≡ x ∷ newest_first steps d
-unfolding newest_first
-newest_set steps d x l = ap₂ ◌∷◌ (get_or-set_same steps d x no_step l) (newest_older steps d x d (le_refl d))
 
 -- the tables t are those of s after a try that took the rule of the clause c
 pub record Took (s : State) (c : Clause) (t : Tables) : Type 0 where
   pub text : t.text ≡ s.tables.text
   pub tried : Tried (text_of s) s.tables.cells (record { place = c.head; variables = c.variables }) (first_at s.goals) t.cells true
-  pub steps : t.branch.steps ≡ set s.tables.branch.steps s.tables.branch.depth (record { rule = s.due; goals = s.goals; level = s.tables.cells.used; mark = s.tables.cells.newest })
-  pub depth : t.branch.depth ≡ s.tables.branch.depth + 1
+  pub depth : t.branch.depth ≤ 512
+  pub steps : taken t.branch ≡ taken s.tables.branch ++ (record { rule = s.due; goals = s.goals; level = s.tables.cells.used; mark = s.tables.cells.newest } ∷ [])
 
-module _ (s : State) (g : Good s) (due : due_at (rules_of s) (place_of s) ≡ ARule) (c : Clause) (is : c ≡ get_or s.clauses.table s.due no_clause)
+module _ (s : State) (g : Good s) (due : due_at (rules_of s) (place_of s) ≡ ARule) (c : Clause) (is : c ≡ clause s.clauses s.due)
     (t : Tables) (took : Took s c t) where
   -- the new step, and the branch with it
   abbrev new : Step
@@ -181,7 +168,7 @@ module _ (s : State) (g : Good s) (due : due_at (rules_of s) (place_of s) ≡ AR
 
   found_by : (o : Option Substitution) → Outcome (text_of s) s.tables.cells c.variables t.cells o true
       → (σ : Substitution) × (o ≡ some σ) × Taken (text_of s) s.tables.cells c.variables t.cells σ
-  found_by none e = absurd (true_not_false e.0)
+  found_by none e = absurd (true≢false e.0)
   found_by (some σ) e = (σ, refl, e.1)
 
   was_found : (σ : Substitution) × (found (text_of s) s.tables.cells (head s g due c is) (first_at s.goals) ≡ some σ) × Taken (text_of s) s.tables.cells c.variables t.cells σ
@@ -194,10 +181,7 @@ module _ (s : State) (g : Good s) (due : due_at (rules_of s) (place_of s) ≡ AR
   text_as = ap (λ (x : Text). x.bytes) took.text
 
   steps_after : steps_in t ≡ new ∷ steps_in s.tables
-  steps_after =
-      let more : s.tables.branch.depth + 1 ≡ suc s.tables.branch.depth = omega arith in
-      ap₂ newest_first took.steps (took.depth ∙ more)
-      ∙ newest_set s.tables.branch.steps s.tables.branch.depth new (omega (arith, can.shallow, g.all_steps))
+  steps_after = ap reverse took.steps ∙ reverse-append (taken s.tables.branch) (new ∷ [])
 
   since : Since s.tables.cells.table s.tables.cells.newest t.cells.table t.cells.newest
   since = is_taken.since _ _ (sound_mark g.order.sound)
@@ -205,32 +189,32 @@ module _ (s : State) (g : Good s) (due : due_at (rules_of s) (place_of s) ≡ AR
   undo : undone t.cells.table t.cells.newest s.tables.cells.newest ≡ s.tables.cells.table
   undo = since_undone _ _ _ _ since
 
-  kept_after : Kept (text_of s) (clauses_of s) s.question.variables (new ∷ steps_in s.tables) t.cells.table t.cells.newest (s.tables.cells.used + c.variables)
+  kept_after : Kept (text_of s) s.clauses s.question.variables (new ∷ steps_in s.tables) t.cells.table t.cells.newest (s.tables.cells.used + c.variables)
   kept_after =
-      taken_kept (text_of s) (clauses_of s) s.question.variables (at_of s) c was_found.0 t.cells.table t.cells.newest s.goals g.order undo since
-      (omega (arith, can.rule, clause_count s g)) (clause_is s s.due can.rule ∙ sym is) can.some
+      taken_kept (text_of s) s.clauses s.question.variables (at_of s) c was_found.0 t.cells.table t.cells.newest s.goals g.order undo since
+      can.rule (sym is) can.some
 
   goals_after : RowKept (text_of s) (s.tables.cells.used + c.variables) (new ∷ steps_in s.tables) s.goals
   goals_after =
-      still_kept (text_of s) (clauses_of s) s.question.variables (at_of s) c was_found.0 t.cells.table t.cells.newest s.goals g.order.row
+      still_kept (text_of s) s.clauses s.question.variables (at_of s) c was_found.0 t.cells.table t.cells.newest s.goals g.order.row
 
   over : RowOver t s.goals (s.tables.cells.used + c.variables)
   over =
       record {
-        clauses = clauses_of s;
+        clauses = s.clauses;
         variables = s.question.variables;
         cells = t.cells.table;
         newest = t.cells.newest;
         kept =
-            subst (λ (x : List ℕ). Kept x (clauses_of s) s.question.variables (steps_in t) t.cells.table t.cells.newest (s.tables.cells.used + c.variables)) (sym text_as)
-            (subst (λ (ss : List Step). Kept (text_of s) (clauses_of s) s.question.variables ss t.cells.table t.cells.newest (s.tables.cells.used + c.variables)) (sym steps_after) kept_after);
+            subst (λ (x : List ℕ). Kept x s.clauses s.question.variables (steps_in t) t.cells.table t.cells.newest (s.tables.cells.used + c.variables)) (sym text_as)
+            (subst (λ (ss : List Step). Kept (text_of s) s.clauses s.question.variables ss t.cells.table t.cells.newest (s.tables.cells.used + c.variables)) (sym steps_after) kept_after);
         row =
             subst (λ (x : List ℕ). RowKept x (s.tables.cells.used + c.variables) (steps_in t) s.goals) (sym text_as)
             (subst (λ (ss : List Step). RowKept (text_of s) (s.tables.cells.used + c.variables) ss s.goals) (sym steps_after) goals_after);
       }
 
-  pub deep_enough : t.branch.depth ≤ 512
-  deep_enough = omega (arith, took.depth, can.shallow)
+  pub some_step : (t.branch.depth ≤ 512) × (0 < length (taken t.branch))
+  some_step = let n : length (taken t.branch) ≡ suc (length (steps_in s.tables)) = sym (length-reverse (taken t.branch)) ∙ ap length steps_after in (took.depth, omega (arith, n))
 
   pub climbing : Climbing t s.goals
   climbing =
@@ -238,31 +222,31 @@ module _ (s : State) (g : Good s) (due : due_at (rules_of s) (place_of s) ≡ AR
         used = s.tables.cells.used + c.variables;
         over = over;
         some = can.some;
-        few = deep_enough;
+        few = took.depth;
         short = subst (λ (x : List ℕ). length x < 65536) (sym text_as) g.order.sound.short;
       }
 
   module _ (s' : State) (book : SameBook s s') (tables : s'.tables ≡ t) (none_due : s'.due ≡ 0)
-      (own : 0 < c.goals → s'.goals ≡ record { place = c.body; level = s.tables.cells.used; left = c.goals; above = t.branch.depth })
+      (own : 0 < c.goals → s'.goals ≡ record { place = c.body; level = s.tables.cells.used; left = c.goals; above = Some (length (taken t.branch) - 1) })
       (behind : c.goals ≡ 0 → Climbed t s.goals s'.goals) where
-    depth_as : t.branch.depth ≡ suc (length (steps_in s.tables))
-    depth_as = omega (arith, took.depth, newest_length s.tables.branch.steps s.tables.branch.depth)
+    depth_as : length (taken t.branch) - 1 ≡ length (steps_in s.tables)
+    depth_as = let n : length (taken t.branch) ≡ suc (length (steps_in s.tables)) = sym (length-reverse (taken t.branch)) ∙ ap length steps_after in omega (arith, n)
 
-    own_as : 0 < c.goals → s'.goals ≡ record { place = c.body; level = s.tables.cells.used; left = c.goals; above = suc (length (steps_in s.tables)) }
-    own_as l = own l ∙ ap (λ (n : ℕ). record { place = c.body; level = s.tables.cells.used; left = c.goals; above = n }) depth_as
+    own_as : 0 < c.goals → s'.goals ≡ record { place = c.body; level = s.tables.cells.used; left = c.goals; above = Some (length (steps_in s.tables)) }
+    own_as l = own l ∙ ap (λ (n : ℕ). record { place = c.body; level = s.tables.cells.used; left = c.goals; above = Some n }) depth_as
 
     record GoalsAfter : Type 0 where
       are : remaining (text_of s) (new ∷ steps_in s.tables) s'.goals
           ≡ map (shifted s.tables.cells.used) (row (text_of s) c.body c.goals) ++ later (remaining (text_of s) (steps_in s.tables) s.goals)
       row_kept : RowKept (text_of s) (s.tables.cells.used + c.variables) (new ∷ steps_in s.tables) s'.goals
-      bare : s'.goals.left ≡ 0 → s'.goals.above ≡ 0
+      bare : s'.goals.left ≡ 0 → s'.goals.above ≡ None
 
     goals_are : (n : ℕ) → c.goals ≡ n → GoalsAfter
     goals_are zero e =
         let k = behind e in
         record {
           are =
-              without_goals (text_of s) (clauses_of s) s.question.variables (at_of s) c was_found.0 t.cells.table t.cells.newest s'.goals e g.order.row.above
+              without_goals (text_of s) s.clauses s.question.variables (at_of s) c was_found.0 t.cells.table t.cells.newest s'.goals e g.order.row.above
               (ap₂ (λ (x : List ℕ) (ss : List Step). remaining x ss s'.goals) (sym text_as) (sym steps_after) ∙ k.behind ∙ ap₂ (λ (x : List ℕ) (ss : List Step). later (remaining x ss s.goals)) text_as steps_after);
           row_kept =
               subst (λ (x : List ℕ). RowKept x (s.tables.cells.used + c.variables) (new ∷ steps_in s.tables) s'.goals) text_as
@@ -272,15 +256,15 @@ module _ (s : State) (g : Good s) (due : due_at (rules_of s) (place_of s) ≡ AR
     goals_are (suc n) e =
         let f = own_as (omega (arith, e)) in
         record {
-          are = with_goals (text_of s) (clauses_of s) s.question.variables (at_of s) c was_found.0 t.cells.table t.cells.newest s'.goals f;
+          are = with_goals (text_of s) s.clauses s.question.variables (at_of s) c was_found.0 t.cells.table t.cells.newest s'.goals f;
           row_kept =
-              with_goals_kept (text_of s) (clauses_of s) s.question.variables (at_of s) c was_found.0 t.cells.table t.cells.newest s'.goals (stated s g due c is) f;
+              with_goals_kept (text_of s) s.clauses s.question.variables (at_of s) c was_found.0 t.cells.table t.cells.newest s'.goals (stated s g due c is) f;
           bare = λ z. let l : s'.goals.left ≡ c.goals = ap (λ (x : Goals). x.left) f in absurd (omega (arith, z, l, e));
         }
 
     abbrev taken_at : At
     taken_at =
-        at_taken (text_of s) (clauses_of s) s.question.variables (at_of s) c was_found.0 t.cells.table t.cells.newest s'.goals
+        at_taken (text_of s) s.clauses s.question.variables (at_of s) c was_found.0 t.cells.table t.cells.newest s'.goals
 
     is_at : at_of s' ≡ taken_at
     is_at =
@@ -292,14 +276,13 @@ module _ (s : State) (g : Good s) (due : due_at (rules_of s) (place_of s) ≡ AR
         let a = goals_are c.goals refl in
         good_as s s' book taken_at is_at g
         (record { sound = is_taken.applied.sound; kept = kept_after; row = a.row_kept; bare = a.bare })
-        (subst (λ (x : Tables). x.branch.depth ≤ 512) (sym tables) deep_enough)
+        (subst (λ (x : Tables). x.branch.depth ≤ 512) (sym tables) took.depth)
         (ap (λ (x : Tables). length x.cells.table) tables ∙ sym (since_length since) ∙ g.all_cells)
-        (ap (λ (x : Tables). length x.branch.steps) tables ∙ ap length took.steps ∙ length-set _ _ _ ∙ g.all_steps)
 
     pub taken_is : place_of s' ≡ attempted (rules_of s) (place_of s)
     taken_is =
         place_as s s' book taken_at is_at
-        ∙ taken_place (text_of s) (clauses_of s) s.question.variables (at_of s) c was_found.0 t.cells.table t.cells.newest s'.goals
+        ∙ taken_place (text_of s) s.clauses s.question.variables (at_of s) c was_found.0 t.cells.table t.cells.newest s'.goals
         g.order.sound is_taken.applied.means (ap (presents (trail (text_of s) t.cells.table t.cells.newest)) (sym is_taken.used) ∙ is_taken.terms) undo
         (goals_are c.goals refl).are
-        ∙ sym (attempted_by s g due c is ∙ ap (landed (place_of s) (rule_at (text_of s) c) (first_goal (text_of s) (clauses_of s) s.question.variables (at_of s) g.order) (other_goals (text_of s) (clauses_of s) s.question.variables (at_of s) g.order)) was_found.1)
+        ∙ sym (attempted_by s g due c is ∙ ap (landed (place_of s) (rule_at (text_of s) c) (first_goal (text_of s) s.clauses s.question.variables (at_of s) g.order) (other_goals (text_of s) s.clauses s.question.variables (at_of s) g.order)) was_found.1)

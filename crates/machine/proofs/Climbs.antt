@@ -1,6 +1,7 @@
 -- Going up the branch for the goals that remain. Assumes nothing.
-use Rattle.std.proofs.Common.{◌≡◌, ℕ, zero, suc, ◌-◌, ◌<◌, ◌≤◌, false, eqb, List, ◌++◌, map, length, get_or, sym, refl, ap, ◌∙◌, subst, arith, eqb-true}
+use Rattle.std.proofs.Common.{◌≡◌, ℕ, zero, suc, ◌-◌, ◌<◌, ◌≤◌, false, eqb, List, [], ◌∷◌, ◌++◌, map, reverse, length, get_or, sym, refl, ap, ◌∙◌, subst, arith, eqb-true, Option, Some, None, IfSome}
 use borrow.Author.Tests.{eqb-false}
+use Rattle.std.proofs.lemmas.List.{length-reverse, get_or-reverse}
 use Rattle.terms.specs.Terms.{Term}
 use Rattle.unification.specs.Variables.{shifted}
 use Rattle.unification.proofs.Choice.{cond_at}
@@ -10,26 +11,39 @@ use Rattle.branches.specs.declared.Step.{Step}
 use Rattle.branches.specs.Rows.{after, row, Standing}
 use Rattle.branches.specs.Branches.{later, behind, remaining, RowKept}
 use Rattle.branches.proofs.Rows.{spans_after}
-use Rattle.branches.proofs.Remaining.{later_next, later_above, step_at, TriedOn, kept_at, behind_at}
+use Rattle.branches.proofs.Remaining.{later_next, later_above, step_at, TriedOn, kept_at, behind_at, below_more}
+use Rattle.machine.specs.Branches.{taken}
 use Rattle.machine.specs.declared.tables.Tables.{Tables}
-use Rattle.machine.specs.Branches.{no_step, newest_first}
 use Rattle.machine.specs.Climbs.{steps_in, RowOver}
 
-pub newest_length : (steps : List Step) (d : ℕ) → length (newest_first steps d) ≡ d
-unfolding newest_first
-newest_length steps zero = refl
-newest_length steps (suc d) = ap suc (newest_length steps d)
+-- what stands where no step was taken
+abbrev pub no_step : Step
+no_step = record { rule = 0; goals = record { place = 0; level = 0; left = 0; above = None }; level = 0; mark = 0 }
 
-pub newest_at : (steps : List Step) (d k : ℕ) → k < d → step_at (newest_first steps d) k ≡ get_or steps k no_step
-unfolding newest_first step_at
-newest_at steps zero k l = absurd (omega (arith, l))
-newest_at steps (suc d) k l =
-    cond_at (λ (s : Step). s ≡ get_or steps k no_step) (eqb k (length (newest_first steps d)))
-    (λ e. ap (λ (n : ℕ). get_or steps n no_step) (sym (eqb-true k (length (newest_first steps d)) e ∙ newest_length steps d)))
-    (λ e. newest_at steps d k (below e))
+step_counted : (ss : List Step) (k : ℕ) → k < length ss → step_at ss k ≡ get_or ss (length ss - 1 - k) no_step
+unfolding step_at
+step_counted [] k l = absurd (omega (arith, l))
+step_counted (s ∷ ss) k l =
+    cond_at (λ (x : Step). x ≡ get_or (s ∷ ss) (length (s ∷ ss) - 1 - k) no_step) (eqb k (length ss))
+    (λ e. let i : 0 ≡ length (s ∷ ss) - 1 - k = omega (arith, eqb-true k (length ss) e) in ap (λ (n : ℕ). get_or (s ∷ ss) n no_step) i)
+    (λ e. let i : suc (length ss - 1 - k) ≡ length (s ∷ ss) - 1 - k = omega (arith, below e) in
+    step_counted ss k (below e) ∙ ap (λ (n : ℕ). get_or (s ∷ ss) n no_step) i)
   where
-    below : eqb k (length (newest_first steps d)) ≡ false → k < d
-    below e = let n : k ≡ length (newest_first steps d) → ⊥ = eqb-false k (length (newest_first steps d)) e in omega (arith, l, n, newest_length steps d)
+    below : eqb k (length ss) ≡ false → k < length ss
+    below e = let n : k ≡ length ss → ⊥ = eqb-false k (length ss) e in omega (arith, l, n)
+
+-- The step with the number k of a branch, where the oldest has the number 0.
+pub newest_at : (steps : List Step) (k : ℕ) → k < length steps → step_at (reverse steps) k ≡ get_or steps k no_step
+newest_at steps k l =
+    let n = length-reverse steps in
+    let i : length steps - 1 - (length (reverse steps) - 1 - k) ≡ k = omega (arith, n, l) in
+    step_counted (reverse steps) k (omega (arith, n, l)) ∙ get_or-reverse steps (length (reverse steps) - 1 - k) no_step (omega (arith, n, l))
+    ∙ ap (λ (j : ℕ). get_or steps j no_step) i
+
+-- how many steps are above, up to the first
+abbrev pub steps_above : Option ℕ → ℕ
+steps_above None = 0
+steps_above (Some k) = suc k
 
 module _ (t : Tables) where
   -- The first of several goals has an end, from where the others stand.
@@ -59,63 +73,59 @@ module _ (t : Tables) where
             subst (λ (x : ℕ). Standing t.text.bytes used x r.level r.left) (sym place)
             (subst (λ (x : ℕ). Standing t.text.bytes used (after t.text.bytes g.place) x r.left) (sym f)
             (subst (λ (x : ℕ). Standing t.text.bytes used (after t.text.bytes g.place) g.level x) (sym left) s.1)) in (
-              record { standing = standing; above = omega (arith, a, o.row.above) },
+              record { standing = standing; above = subst (λ (x : Option ℕ). IfSome x (λ i. i < length (steps_in t))) (sym a) o.row.above },
               ap (λ (x : ℕ). map (shifted r.level) (row t.text.bytes x r.left) ++ behind t.text.bytes (steps_in t) r.above) place
                   ∙ ap (λ (x : ℕ). map (shifted x) (row t.text.bytes (after t.text.bytes g.place) r.left) ++ behind t.text.bytes (steps_in t) r.above) f
                   ∙ ap (λ (x : ℕ). map (shifted g.level) (row t.text.bytes (after t.text.bytes g.place) x) ++ behind t.text.bytes (steps_in t) r.above) left
-                  ∙ ap (λ (x : ℕ). map (shifted g.level) (row t.text.bytes (after t.text.bytes g.place) k) ++ behind t.text.bytes (steps_in t) x) a
+                  ∙ ap (λ (x : Option ℕ). map (shifted g.level) (row t.text.bytes (after t.text.bytes g.place) k) ++ behind t.text.bytes (steps_in t) x) a
                   ∙ sym (later_next t.text.bytes (steps_in t) g k q),
             )
 
-  -- Behind the last of a row that goes on nowhere there is nothing.
-  pub nothing_behind : (g : Goals) → g.left ≡ 1 → g.above ≡ 0 → (r : Goals) → r.left ≡ 0 → r.above ≡ 0
-      → remaining t.text.bytes (steps_in t) r ≡ later (remaining t.text.bytes (steps_in t) g)
-  nothing_behind g l a r n b =
-      ap (λ (x : ℕ). map (shifted r.level) (row t.text.bytes r.place x) ++ behind t.text.bytes (steps_in t) r.above) n
-      ∙ ap (behind t.text.bytes (steps_in t)) (b ∙ sym a) ∙ sym (later_above t.text.bytes (steps_in t) g l)
-
-  pub nothing_row : (used : ℕ) (r : Goals) → r.left ≡ 0 → r.above ≡ 0 → RowKept t.text.bytes used (steps_in t) r
-  nothing_row used r n b =
-      record { standing = subst (Standing t.text.bytes used r.place r.level) (sym n) tt; above = omega (arith, b) }
-
   -- One step up.
-  module _ (g r : Goals) (above : 0 < g.above) (is : r ≡ (get_or t.branch.steps (g.above - 1) no_step).goals) where
-    pub up_inside : {used : ℕ} → RowOver t g used → g.above ≤ t.branch.depth
-    up_inside o = omega (arith, o.row.above, newest_length t.branch.steps t.branch.depth)
+  module _ (g : Goals) (k : ℕ) (above : g.above ≡ Some k) where
+    inside : {used : ℕ} → RowOver t g used → k < length (steps_in t)
+    inside o = subst (λ (x : Option ℕ). IfSome x (λ i. i < length (steps_in t))) above o.row.above
 
-    at_step : {used : ℕ} → RowOver t g used → r ≡ (step_at (steps_in t) (g.above - 1)).goals
-    at_step o =
-        is ∙ ap (λ (s : Step). s.goals) (sym (newest_at t.branch.steps t.branch.depth (g.above - 1) (omega (arith, above, up_inside o))))
+    pub up_inside : {used : ℕ} → RowOver t g used → k < length (taken t.branch)
+    up_inside o = omega (arith, inside o, length-reverse (taken t.branch))
 
-    inside : {used : ℕ} → RowOver t g used → g.above - 1 < length (steps_in t)
-    inside o = omega (arith, above, o.row.above)
+    module _ (r : Goals) (is : r ≡ (get_or (taken t.branch) k no_step).goals) where
+      at_step : {used : ℕ} → RowOver t g used → r ≡ (step_at (steps_in t) k).goals
+      at_step o =
+          is ∙ ap (λ (s : Step). s.goals) (sym (newest_at (taken t.branch) k (up_inside o)))
 
-    tried_on : {used : ℕ} (o : RowOver t g used) → TriedOn t.text.bytes o.clauses o.variables used (g.above - 1) (step_at (steps_in t) (g.above - 1))
-    tried_on {used} o = kept_at t.text.bytes o.clauses o.variables (steps_in t) o.cells o.newest used (g.above - 1) o.kept (inside o)
+      tried_on : {used : ℕ} (o : RowOver t g used) → TriedOn t.text.bytes o.clauses o.variables used k (step_at (steps_in t) k)
+      tried_on {used} o = kept_at t.text.bytes o.clauses o.variables (steps_in t) o.cells o.newest used k o.kept (inside o)
 
-    pub up_over : (used : ℕ) → RowOver t g used → RowOver t r used
-    up_over used o =
-        let k = tried_on o in
-        record {
-          clauses = o.clauses;
-          variables = o.variables;
-          cells = o.cells;
-          newest = o.newest;
-          kept = o.kept;
-          row =
-              subst (RowKept t.text.bytes used (steps_in t)) (sym (at_step o)) (record { standing = k.standing; above = omega (arith, k.above, inside o) });
-        }
+      pub up_over : (used : ℕ) → RowOver t g used → RowOver t r used
+      up_over used o =
+          let n = tried_on o in
+          record {
+            clauses = o.clauses;
+            variables = o.variables;
+            cells = o.cells;
+            newest = o.newest;
+            kept = o.kept;
+            row =
+                subst (RowKept t.text.bytes used (steps_in t)) (sym (at_step o))
+                (record { standing = n.standing; above = below_more (step_at (steps_in t) k).goals.above k (length (steps_in t)) (omega (arith, inside o)) n.above });
+          }
 
-    pub up_some : {used : ℕ} → RowOver t g used → 1 ≤ r.left
-    up_some o = subst (λ (x : Goals). 1 ≤ x.left) (sym (at_step o)) (tried_on o).some
+      pub up_some : {used : ℕ} → RowOver t g used → 1 ≤ r.left
+      up_some o = subst (λ (x : Goals). 1 ≤ x.left) (sym (at_step o)) (tried_on o).some
 
-    pub up_less : {used : ℕ} → RowOver t g used → r.above < g.above
-    up_less o = subst (λ (x : Goals). x.above < g.above) (sym (at_step o)) (omega (arith, (tried_on o).above, above))
+      pub up_less : {used : ℕ} → RowOver t g used → steps_above r.above < steps_above g.above
+      up_less o =
+          subst (λ (x : Goals). steps_above x.above < steps_above g.above) (sym (at_step o))
+          (subst (λ (x : Option ℕ). steps_above (step_at (steps_in t) k).goals.above < steps_above x) (sym above) (fewer (step_at (steps_in t) k).goals.above (tried_on o).above))
+        where
+          fewer : (o : Option ℕ) → IfSome o (λ i. i < k) → steps_above o < suc k
+          fewer None h = omega arith
+          fewer (Some i) h = omega (arith, h)
 
-    pub up_behind : {used : ℕ} → RowOver t g used → g.left ≡ 1
-        → later (remaining t.text.bytes (steps_in t) r) ≡ later (remaining t.text.bytes (steps_in t) g)
-    up_behind {used} o l =
-        let one : suc (g.above - 1) ≡ g.above = omega (arith, above) in
-        ap (λ (x : Goals). later (remaining t.text.bytes (steps_in t) x)) (at_step o)
-        ∙ sym (behind_at t.text.bytes o.clauses o.variables (steps_in t) o.cells o.newest used (g.above - 1) o.kept (inside o))
-        ∙ ap (behind t.text.bytes (steps_in t)) one ∙ sym (later_above t.text.bytes (steps_in t) g l)
+      pub up_behind : {used : ℕ} → RowOver t g used → g.left ≡ 1
+          → later (remaining t.text.bytes (steps_in t) r) ≡ later (remaining t.text.bytes (steps_in t) g)
+      up_behind {used} o l =
+          ap (λ (x : Goals). later (remaining t.text.bytes (steps_in t) x)) (at_step o)
+          ∙ sym (behind_at t.text.bytes o.clauses o.variables (steps_in t) o.cells o.newest used k o.kept (inside o))
+          ∙ ap (behind t.text.bytes (steps_in t)) (sym above) ∙ sym (later_above t.text.bytes (steps_in t) g l)

@@ -1,17 +1,18 @@
 -- Two facts in the text, and their common instance. Assumes nothing.
 use mathlib.Core.Path.{◌≡◌, refl, sym, ap, ap₂, subst, ◌∙◌}
-use mathlib.Core.Bool.{Bool, true, false}
-use mathlib.Core.List.{List, [], ◌∷◌}
+use mathlib.Core.Bool.{Bool, true, true≢false}
+use mathlib.Core.List.{List, [], ◌∷◌, ◌++◌}
 use mathlib.Core.Option.{Option, none, some}
 use Prim.Native.Nat.{ℕ, suc, ◌+◌, ◌≤◌}
 use native.Mathlib.Omega.{arith}
 use lib.ListN.{length, get_or, length-append}
 use mir.Syntax.{w8}
 use mir.Val.{Fits as Byte}
+use Rattle.std.specs.Prelude.{None}
 use Rattle.std.specs.declared.result.Result.{Result}
 use Rattle.std.specs.declared.result.Result.TheVariants.{Ok, Err}
 use Rattle.terms.specs.declared.Form.TheVariants.{Rules}
-use Rattle.terms.specs.Terms.{Term, var, atom, pair, Rule}
+use Rattle.terms.specs.Terms.{Term, Rule}
 use Rattle.terms.specs.Bytes.{encoding, encodings, Fits}
 use Rattle.grammar.specs.declared.faults.SingleFault.{SingleFault}
 use Rattle.grammar.specs.Asking.{go}
@@ -22,18 +23,14 @@ use Rattle.reading.specs.Views.{RuleView, rule_shown, seen}
 use Rattle.unification.specs.Variables.{shifted}
 use Rattle.unification.specs.Substitutions.{Substitution}
 use Rattle.unification.specs.Unification.{unify}
-use Rattle.bindings.specs.declared.Cell.{Cell}
-use Rattle.bindings.specs.declared.Cell.TheVariants.{Free}
+use Rattle.bindings.specs.Cells.{Cell}
 use Rattle.bindings.specs.declared.TermAt.{TermAt}
 use Rattle.bindings.specs.Meanings.{Trail, meaning}
 use Rattle.bindings.specs.Texts.{tree, term, Stands, Declares, Holds}
 use Rattle.bindings.specs.Trails.{trail, none_bound, Sound, TermIn, meaning_at}
-use Rattle.bindings.specs.Overlays.{laid}
-use Rattle.bindings.proofs.Chains.{true_not_false}
-use Rattle.bindings.proofs.Texts.{stands_more, declares_stands}
+use Rattle.bindings.proofs.Texts.{shifted_zero, stands_more, declares_stands}
 use Rattle.bindings.proofs.Links.{free_trail, free_sound}
-use Rattle.bindings.proofs.Overlays.{laid_length}
-use Rattle.bindings.proofs.Encodings.{laid_holds, holds_before, encoding_tree, encoding_declares}
+use Rattle.bindings.proofs.Encodings.{holds_after, holds_more, encoding_tree, encoding_declares}
 use Rattle.machine.specs.declared.cells.Cells.{Cells}
 use Rattle.machine.specs.declared.attempt.Head.{Head}
 use Rattle.machine.specs.Tries.{found, goal_term, Ready, Outcome, Tried}
@@ -52,7 +49,7 @@ module _ {text : List ℕ} {c : Cells} {r : Head} {g : TermAt} {c' : Cells} {q :
   taken_settles : Ready text c r g → (o : Option Substitution) → Outcome text c r.variables c' o q → q ≡ true
       → (c'.used ≡ c.used + r.variables) × Sound text c'.used c'.table c'.newest × TermIn text c'.used g
       × (instance_by o (goal_term text c g) ≡ some (goal_term text c' g))
-  taken_settles ready none e y = absurd (true_not_false (sym y ∙ e.0))
+  taken_settles ready none e y = absurd (true≢false (sym y ∙ e.0))
   taken_settles ready (some σ) e y =
       let t = e.1 in (
         t.used,
@@ -65,13 +62,6 @@ module _ {text : List ℕ} {c : Cells} {r : Head} {g : TermAt} {c' : Cells} {q :
   settled ready t y =
       let z = taken_settles ready (found text c r g) t.outcome y in
       record { used = z.0; sound = z.1; stands = z.2; is = z.3 }
-
-  pub untaken : Tried text c r g c' q → q ≡ false → instance_by (found text c r g) (goal_term text c g) ≡ none
-  untaken t y = by (found text c r g) t.outcome
-    where
-      by : (o : Option Substitution) → Outcome text c r.variables c' o q → instance_by o (goal_term text c g) ≡ none
-      by none e = refl
-      by (some σ) e = absurd (true_not_false (sym e.0 ∙ y))
 
 -- The same cells under other names.
 module _ {text text' : List ℕ} {n n' : ℕ} (t : text' ≡ text) (u : n' ≡ n) where
@@ -89,17 +79,11 @@ meaning_as {text} {text'} {cs} {cs'} {h} {h'} g t d k =
 
 -- ── two terms in the text ──
 
-pub loaded : (goal head text : List ℕ) → length goal + length head ≤ length text
-    → Holds (laid (length goal) head (laid 0 goal text)) 0 goal × Holds (laid (length goal) head (laid 0 goal text)) (length goal) head
-loaded goal head text l = (
-  holds_before (length goal) 0 head goal (laid 0 goal text) (omega arith) (laid_holds 0 goal text (omega (arith, l))),
-  laid_holds (length goal) head (laid 0 goal text) (omega (arith, l, laid_length 0 goal text)),
+pub loaded : (goal head text : List ℕ) → text ≡ goal ++ head → Holds text 0 goal × Holds text (length goal) head
+loaded goal head text is = (
+  subst (λ (t : List ℕ). Holds t 0 goal) (sym is) (holds_more 0 goal goal head (holds_after [] goal)),
+  subst (λ (t : List ℕ). Holds t (length goal) head) (sym is) (holds_after goal head),
 )
-
-shifted_zero : (t : Term) → shifted 0 t ≡ t
-shifted_zero (var x) = ap var (omega arith)
-shifted_zero (atom a) = refl
-shifted_zero (pair s t) = ap₂ pair (shifted_zero s) (shifted_zero t)
 
 -- ── a fact that was read ──
 
@@ -139,7 +123,7 @@ fact bs v all e = by (rule bs) refl e
 
 module _ (text : List ℕ) (c : Cells) (a b : Rule) (r : Head) (g : TermAt)
     (goal : Holds text 0 (encoding Rules b.head)) (head : Holds text r.place (encoding Rules a.head))
-    (size : length text ≡ 16384) (many : length c.table ≡ 2048) (free : (i : ℕ) → get_or c.table i Free ≡ Free)
+    (size : length text ≤ 16384) (many : length c.table ≡ 2048) (free : (i : ℕ) → get_or c.table i None ≡ None)
     (used : c.used ≡ b.variables) (newest : c.newest ≡ none_bound) (variables : r.variables ≡ a.variables)
     (place : g.place ≡ 0) (level : g.level ≡ 0)
     (head_fits : Fits a.variables a.head) (goal_fits : Fits b.variables b.head) (few_head : a.variables ≤ 64) (few_goal : b.variables ≤ 64) where
@@ -169,7 +153,7 @@ module _ (text : List ℕ) (c : Cells) (a b : Rule) (r : Head) (g : TermAt)
 
 module _ {left right : List ℕ} {v w : RuleView} (a : Fact left v) (b : Fact right w) (text : List ℕ) (c : Cells)
     (goal : Holds text 0 w.head) (head : Holds text (length w.head) v.head)
-    (size : length text ≡ 16384) (many : length c.table ≡ 2048) (free : (i : ℕ) → get_or c.table i Free ≡ Free)
+    (size : length text ≤ 16384) (many : length c.table ≡ 2048) (free : (i : ℕ) → get_or c.table i None ≡ None)
     (used : c.used ≡ w.variables) (newest : c.newest ≡ none_bound) where
   goal_holds : Holds text 0 (encoding Rules b.is.head)
   goal_holds = subst (λ (bs : List ℕ). Holds text 0 bs) b.head goal

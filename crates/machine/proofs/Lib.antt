@@ -1,5 +1,6 @@
 pub mod Turns
 pub mod Tries
+pub mod Views
 pub mod Sinks
 pub mod Numberings
 pub mod Common

@@ -1,8 +1,10 @@
 -- Bytes put into a sink one after the other. Assumes nothing.
-use Rattle.std.proofs.Common.{◌≡◌, ℕ, ◌+◌, ◌<◌, ◌≤◌, Bool, true, false, cond, List, [], ◌∷◌, ◌++◌, length, set, sym, refl, ap, ◌∙◌, subst, arith, length-append, length-set}
+use Rattle.std.proofs.Common.{◌≡◌, ℕ, ◌+◌, ◌<◌, ◌≤◌, Bool, true, false, cond, List, [], ◌∷◌, ◌++◌, length, set, Ok, Err, Result, IsErr, sym, refl, ap, ◌∙◌, arith, length-append, length-set}
+use Rattle.std.proofs.lemmas.Bool.{false≢true}
 use Rattle.bindings.specs.Overlays.{laid}
 use Rattle.bindings.proofs.Overlays.{laid_nothing, laid_one, laid_then}
-use Rattle.machine.specs.declared.instance.Sink.{Sink}
+use Rattle.machine.specs.declared.sink.NoRoom.{NoRoom}
+use Rattle.machine.specs.declared.sink.Sink.{Sink}
 use Rattle.machine.specs.Sinks.{Puts}
 
 -- ── one byte ──
@@ -17,7 +19,7 @@ set_many false k x xs = refl
 
 pub one_put : (s u : Sink) (b : ℕ) → u.count ≡ s.count → u.writing ≡ s.writing → u.buffer.ghost_name ≡ s.buffer.ghost_name
     → u.buffer.now ≡ cond s.writing (set s.buffer.now s.count b) s.buffer.now
-    → s.count < length s.buffer.now → Puts s (counted u) (b ∷ []) true
+    → s.count < length s.buffer.now → Puts s (counted u) (b ∷ []) (Ok tt)
 one_put s u b c w n e h =
     record {
       writing = w;
@@ -37,7 +39,7 @@ nothing_laid : (b : Bool) (k : ℕ) (xs : List ℕ) → xs ≡ cond b (laid k []
 nothing_laid true k xs = sym (laid_nothing k xs)
 nothing_laid false k xs = refl
 
-pub puts_nothing : (s : Sink) → s.count ≤ length s.buffer.now → Puts s s [] true
+pub puts_nothing : (s : Sink) → s.count ≤ length s.buffer.now → Puts s s [] (Ok tt)
 puts_nothing s h =
     record {
       writing = refl;
@@ -47,9 +49,8 @@ puts_nothing s h =
     }
 
 -- A sink that took bytes is not past its buffer.
-pub puts_room : {s u : Sink} {bs : List ℕ} {q : Bool} → Puts s u bs q → q ≡ true → u.count ≤ length u.buffer.now
-puts_room {s} {u} {bs} {q} p y =
-    let e : Puts s u bs true = subst (λ (b : Bool). Puts s u bs b) y p in omega (arith, e.says.fits, e.says.count, e.many)
+pub puts_room : {s u : Sink} {bs : List ℕ} {o : Unit} → Puts s u bs (Ok o) → u.count ≤ length u.buffer.now
+puts_room p = omega (arith, p.says.fits, p.says.count, p.many)
 
 buffers : (b : Bool) (k m : ℕ) (cs bs xs ys : List ℕ) → m ≡ k + length cs → ys ≡ cond b (laid k cs xs) xs
     → cond b (laid m bs ys) ys ≡ cond b (laid k (cs ++ bs) xs) xs
@@ -57,8 +58,9 @@ buffers true k m cs bs xs ys e q = ap (laid m bs) q ∙ laid_then k m cs bs xs e
 buffers false k m cs bs xs ys e q = q
 
 module _ {s u : Sink} {cs : List ℕ} where
-  in_then : {w : Sink} {bs : List ℕ} (r : Bool) → Puts s u cs true → Puts u w bs r → Puts s w (cs ++ bs) r
-  in_then {w} {bs} true e f =
+  -- Bytes that are in, and then others.
+  pub puts_then : {w : Sink} {bs : List ℕ} {o : Unit} {r : Result Unit NoRoom} → Puts s u cs (Ok o) → Puts u w bs r → Puts s w (cs ++ bs) r
+  puts_then {w = w} {bs = bs} {r = Ok n} e f =
       let l = length-append cs bs in
       record {
         writing = f.writing ∙ e.writing;
@@ -74,7 +76,7 @@ module _ {s u : Sink} {cs : List ℕ} where
                   ∙ buffers s.writing s.count u.count cs bs s.buffer.now u.buffer.now e.says.count e.says.buffer;
             };
       }
-  in_then {w} {bs} false e f =
+  puts_then {w = w} {bs = bs} {r = Err n} e f =
       let l = length-append cs bs in
       record {
         writing = f.writing ∙ e.writing;
@@ -90,14 +92,9 @@ module _ {s u : Sink} {cs : List ℕ} where
             };
       }
 
-  -- Bytes that are in, and then others.
-  pub puts_then : {w : Sink} {bs : List ℕ} {q r : Bool} → Puts s u cs q → q ≡ true → Puts u w bs r → Puts s w (cs ++ bs) r
-  puts_then {w} {bs} {q} {r} e y f = in_then r (subst (λ (b : Bool). Puts s u cs b) y e) f
-
   -- Where some bytes have no room, more have none.
-  pub puts_over : {q : Bool} (bs : List ℕ) → Puts s u cs q → q ≡ false → Puts s u (cs ++ bs) false
-  puts_over {q} bs d y =
-      let e : Puts s u cs false = subst (λ (b : Bool). Puts s u cs b) y d in
+  pub puts_over : {n m : NoRoom} (bs : List ℕ) → Puts s u cs (Err n) → Puts s u (cs ++ bs) (Err m)
+  puts_over bs e =
       let l = length-append cs bs in
       record {
         writing = e.writing;
@@ -105,3 +102,8 @@ module _ {s u : Sink} {cs : List ℕ} where
         many = e.many;
         says = record { over = omega (arith, e.says.over, l); buffer = e.says.buffer };
       }
+
+-- What holds of each refusal holds of a result that is one.
+pub refused : (P : Result Unit NoRoom → Type 0) {r : Result Unit NoRoom} → IsErr r → ((e : NoRoom) → P (Err e)) → P r
+refused P {r = Ok u} e p = absurd (false≢true e)
+refused P {r = Err n} e p = p n

@@ -10,8 +10,8 @@ use Rattle.grammar.specs.Singles.{rule}
 use Rattle.unification.specs.Variables.{shifted}
 use Rattle.unification.specs.Substitutions.{Substitution, apply}
 use Rattle.unification.specs.Unification.{unify}
-use Rattle.machine.specs.declared.facts.Unified.{Unified}
-use Rattle.machine.specs.declared.facts.Unified.TheVariants.{No, Yes, Long}
+use Rattle.machine.specs.declared.facts.FactsFault.{FactsFault}
+use Rattle.machine.specs.declared.facts.FactsFault.TheVariants.{Reading, NoRoom}
 use Rattle.machine.specs.Sinks.{fitting, written}
 
 -- the term with what was found put in
@@ -27,13 +27,14 @@ common a b = instance_by (unify (shifted b.variables a.head) b.head) b.head
 abbrev pub common_of : List ℕ → List ℕ → Result (Option Term) SingleFault
 common_of left right = go (rule left) (λ e. e) (λ a. go (rule right) (λ e. e) (λ b. Ok (common a b)))
 
-abbrev pub by_length : Maybe ℕ → Unified
-by_length (Some n) = Yes n
-by_length None = Long
+-- the length of what was written
+abbrev pub by_length : Maybe ℕ → Result (Maybe ℕ) FactsFault
+by_length (Some n) = Ok (Some n)
+by_length None = Err NoRoom
 
 -- what is told of an instance, and the buffer after that
-abbrev pub told : Option Term → List ℕ → Unified
-told none buffer = No
+abbrev pub told : Option Term → List ℕ → Result (Maybe ℕ) FactsFault
+told none buffer = Ok None
 told (some t) buffer = by_length (fitting (encoding Rules t) buffer)
 
 abbrev pub buffer_with : Option Term → List ℕ → List ℕ
@@ -41,9 +42,9 @@ buffer_with none buffer = buffer
 buffer_with (some t) buffer = written (encoding Rules t) buffer
 
 -- the result, and the buffer after it; a refusal leaves it as it was
-abbrev pub outcome : Result (Option Term) SingleFault → List ℕ → Result Unified SingleFault
-outcome (Ok t) buffer = Ok (told t buffer)
-outcome (Err e) buffer = Err e
+abbrev pub outcome : Result (Option Term) SingleFault → List ℕ → Result (Maybe ℕ) FactsFault
+outcome (Ok t) buffer = told t buffer
+outcome (Err e) buffer = Err (Reading e)
 
 abbrev pub buffer_after : Result (Option Term) SingleFault → List ℕ → List ℕ
 buffer_after (Ok t) buffer = buffer_with t buffer

@@ -3,10 +3,11 @@ use Rattle.std.specs.Prelude.{◌≡◌, ℕ, Bool, List, length}
 use Rattle.std.proofs.Math.Option.{Option}
 use Rattle.terms.specs.Terms.{Term}
 use Rattle.unification.specs.Substitutions.{Substitution}
-use Rattle.bindings.specs.declared.Cell.{Cell}
+use Rattle.bindings.specs.Cells.{Cell}
 use Rattle.bindings.specs.declared.TermAt.{TermAt}
 use Rattle.bindings.specs.Trails.{Since, Sound, TermIn, meaning_at}
 use Rattle.bindings.specs.Endings.{Ends}
+use Rattle.machine.specs.declared.cells.Cells.{Cells}
 use Rattle.machine.specs.declared.guard.Guard.{Guard}
 
 -- the guard's cells are in order over the text
@@ -20,6 +21,10 @@ Over text g t = TermIn text g.used t
 -- what the term means under the guard's cells
 abbrev pub means : List ℕ → Guard → TermAt → Term
 means text g t = meaning_at text g.cells.now g.newest t
+
+-- the cells that the guard has, as cells
+abbrev pub cells_of : Guard → Cells
+cells_of g = record { table = g.cells.now; used = g.used; newest = g.newest }
 
 -- the guard g became k, and r was said, where the definition finds `found`
 abbrev pub ComesTo : List ℕ → Guard → Guard → Option Substitution → Bool → Type 0

@@ -1,10 +1,10 @@
+pub mod Texts
 pub mod Branches
 pub mod Guards
 pub mod Views
 pub mod Tries
 pub mod Climbs
 pub mod States
-pub mod Starts
 pub mod Openings
 pub mod Machines
 pub mod Sinks

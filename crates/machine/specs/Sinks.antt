@@ -1,7 +1,8 @@
 -- Bytes put into a sink. Assumes nothing.
-use Rattle.std.specs.Prelude.{◌≡◌, ℕ, ◌+◌, ◌<◌, ◌≤◌, Bool, true, false, cond, List, length, Some, None, Option, nat_le}
+use Rattle.std.specs.Prelude.{◌≡◌, ℕ, ◌+◌, ◌<◌, ◌≤◌, Bool, true, false, cond, List, length, Some, None, Option, Ok, Err, Result, nat_le}
 use Rattle.bindings.specs.Overlays.{laid}
-use Rattle.machine.specs.declared.instance.Sink.{Sink}
+use Rattle.machine.specs.declared.sink.NoRoom.{NoRoom}
+use Rattle.machine.specs.declared.sink.Sink.{Sink}
 
 -- the bytes are in: they are counted, and stand in the buffer where the sink s writes
 pub record Took (s s' : Sink) (bs : List ℕ) : Type 0 where
@@ -14,12 +15,12 @@ pub record Refused (s s' : Sink) (bs : List ℕ) : Type 0 where
   pub over : length s.buffer.now < s.count + length bs
   pub buffer : s.writing ≡ false → s'.buffer.now ≡ s.buffer.now
 
-abbrev pub PutSays : Sink → Sink → List ℕ → Bool → Type 0
-PutSays s s' bs true = Took s s' bs
-PutSays s s' bs false = Refused s s' bs
+abbrev pub PutSays : Sink → Sink → List ℕ → Result Unit NoRoom → Type 0
+PutSays s s' bs (Ok u) = Took s s' bs
+PutSays s s' bs (Err e) = Refused s s' bs
 
--- the bytes are put into s, which is then s'; yes where they have room
-pub record Puts (s s' : Sink) (bs : List ℕ) (r : Bool) : Type 0 where
+-- the bytes are put into s, which is then s', where they have room
+pub record Puts (s s' : Sink) (bs : List ℕ) (r : Result Unit NoRoom) : Type 0 where
   pub writing : s'.writing ≡ s.writing
   pub same : s'.buffer.ghost_name ≡ s.buffer.ghost_name
   pub many : length s'.buffer.now ≡ length s.buffer.now

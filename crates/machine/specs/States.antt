@@ -1,5 +1,5 @@
 -- What a search's tables mean, by the definition of the search. Assumes nothing.
-use Rattle.std.specs.Prelude.{◌≡◌, ℕ, ◌≤◌, Bool, true, ◌&&◌, List, length, take, ◌==◌, nat_le}
+use Rattle.std.specs.Prelude.{◌≡◌, ℕ, ◌≤◌, Bool, true, ◌&&◌, List, length, ◌==◌, nat_le}
 use Rattle.terms.specs.Terms.{Rule, Query}
 use Rattle.resolution.specs.Lines.{Place}
 use Rattle.branches.specs.declared.Clause.{Clause}
@@ -7,19 +7,25 @@ use Rattle.branches.specs.Rows.{row, Declared}
 use Rattle.branches.specs.Clauses.{rules_at}
 use Rattle.branches.specs.Branches.{At, place, InOrder}
 use Rattle.branches.specs.Tests.{declared?, all_stated?, in_order?}
-use Rattle.machine.specs.declared.state.State.{State}
+use Rattle.branches.specs.declared.Goals.{Goals}
+use Rattle.machine.specs.declared.tables.Tables.{Tables}
+use Rattle.machine.specs.declared.question.Question.{Question}
 use Rattle.machine.specs.Climbs.{steps_in}
+
+-- what a search stands on: its tables, where its rules stand, the query, the goals that remain and the rule that is due
+pub record State : Type 0 where
+  pub tables : Tables
+  pub clauses : List Clause
+  pub question : Question
+  pub goals : Goals
+  pub due : ℕ
 
 -- the bytes of rules and query
 abbrev pub text_of : State → List ℕ
 text_of s = s.tables.text.bytes
 
--- the rules, and where they stand
-abbrev pub clauses_of : State → List Clause
-clauses_of s = take s.clauses.count s.clauses.table
-
 abbrev pub rules_of : State → List Rule
-rules_of s = rules_at (text_of s) (clauses_of s)
+rules_of s = rules_at (text_of s) s.clauses
 
 abbrev pub query_of : State → Query
 query_of s = record { variables = s.question.variables; goals = row (text_of s) s.question.place s.question.goals }
@@ -41,28 +47,19 @@ place_of s = place (text_of s) (at_of s)
 
 -- the tables are in order
 pub record Good (s : State) : Type 0 where
-  pub order : InOrder (text_of s) (clauses_of s) s.question.variables (at_of s)
-  pub stated : all_stated? (text_of s) (clauses_of s) ≡ true
+  pub order : InOrder (text_of s) s.clauses s.question.variables (at_of s)
+  pub stated : all_stated? (text_of s) s.clauses ≡ true
   pub asked : Declared (text_of s) s.question.variables s.question.place s.question.goals
+  -- a vector tells its bound only where its length is asked for, and going back does not ask
   pub depth : s.tables.branch.depth ≤ 512
-  pub count : s.clauses.count ≤ 1024
+  pub count : length s.clauses ≤ 1024
   pub all_cells : length s.tables.cells.table ≡ 2048
-  pub all_clauses : length s.clauses.table ≡ 1024
-  pub all_steps : length s.tables.branch.steps ≡ 512
 
 unfoldable pub good : State → Bool
 good s =
-    in_order? (text_of s) (clauses_of s) s.question.variables (at_of s)
-    && (all_stated? (text_of s) (clauses_of s)
+    in_order? (text_of s) s.clauses s.question.variables (at_of s)
+    && (all_stated? (text_of s) s.clauses
     && (declared? (text_of s) s.question.variables s.question.place s.question.goals
     && (nat_le s.tables.branch.depth 512
-    && (nat_le s.clauses.count 1024
-    && (length s.tables.cells.table == 2048
-    && (length s.clauses.table == 1024
-    && length s.tables.branch.steps == 512))))))
-
--- rules and query stay where they are
-pub record SameBook (s s' : State) : Type 0 where
-  pub text : s'.tables.text ≡ s.tables.text
-  pub clauses : s'.clauses ≡ s.clauses
-  pub question : s'.question ≡ s.question
+    && (nat_le (length s.clauses) 1024
+    && length s.tables.cells.table == 2048))))

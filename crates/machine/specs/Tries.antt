@@ -7,7 +7,7 @@ use Rattle.unification.specs.Substitutions.{Substitution, apply}
 use Rattle.unification.specs.Unification.{unify}
 use Rattle.resolution.specs.Cells.{fresh}
 use Rattle.resolution.specs.Limits.{cell_limit}
-use Rattle.bindings.specs.declared.Cell.{Cell}
+use Rattle.bindings.specs.Cells.{Cell}
 use Rattle.bindings.specs.declared.TermAt.{TermAt}
 use Rattle.bindings.specs.Texts.{tree, Declares}
 use Rattle.bindings.specs.Trails.{Since, trail, Sound, TermIn, meaning_at}

@@ -1,6 +1,7 @@
 // A try of a rule on a goal.
-ghost use Rattle.std.specs.Prelude.{◌≡◌, ℕ, ◌+◌, ◌<◌, ◌≤◌, true, false, List};
+ghost use Rattle.std.specs.Prelude.{◌≡◌, ℕ, true, false, List};
 ghost use Rattle.unification.specs.Unification.{unify as unifier};
+ghost use Rattle.bindings.specs.Cells.{Cell};
 ghost use Rattle.bindings.specs.Trails.{Since, Sound, TermIn, meaning_at};
 ghost use Rattle.bindings.specs.Endings.{Ends};
 ghost use Rattle.machine.specs.Tries.{Ready, Tried};
@@ -8,8 +9,7 @@ ghost use Rattle.machine.specs.Tries.{Ready, Tried};
 use crate::cells::Cells;
 use crate::guard::Guard;
 use crate::text::Text;
-use crate::unify::unify;
-use bindings::{Cell, TermAt};
+use bindings::{Binding, TermAt};
 
 // The head of a rule in the text, and how many variables the rule declares.
 #[derive(Clone, Copy)]
@@ -18,10 +18,11 @@ pub(crate) struct Head {
     pub(crate) variables: u8,
 }
 
-// Makes two terms equal, or leaves the cells as they were.
+// Makes two terms equal, or leaves the cells as they were. Whether they can be made equal is the answer to a question, and no
+// success of the call; so it is in every function of a try.
 fn join(
     text: &Text,
-    cells: &mut [Cell],
+    cells: &mut [Option<Binding>],
     used: u16,
     newest: &mut u16,
     left: TermAt,
@@ -42,7 +43,7 @@ fn join(
         mark: *newest,
         keep: false,
     };
-    let joined = unify(text, &mut guard, left, right);
+    let joined = guard.unify(text, left, right);
     if joined {
         guard.keep();
         *newest = guard.newest;
@@ -55,7 +56,7 @@ pub(crate) fn attempt(text: &Text, cells: &mut Cells, head: Head, goal: TermAt) 
     requires { Ready text.now.bytes cells.old head goal }
     ensures { Tried text.now.bytes cells.old head goal cells.new result }
 {
-    let used = cells.used + head.variables as u16;
+    let used = cells.used + u16::from(head.variables);
     let fresh = TermAt {
         place: head.place,
         level: cells.used,

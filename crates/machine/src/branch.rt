@@ -1,89 +1,74 @@
 // The branch of steps.
-ghost use Rattle.std.specs.Prelude.{◌≡◌, ℕ, ◌+◌, ◌-◌, ◌<◌, ◌≤◌, length, get_or, slice_index_or, slice_set};
-ghost use Rattle.machine.specs.Branches.{no_step};
+ghost use Rattle.std.specs.Prelude.{◌≡◌, ◌<◌, ◌≤◌, ◌∷◌, ◌++◌, [], length};
+ghost use Rattle.std.specs.Option.{option_to_list};
+ghost use Rattle.machine.specs.Branches.{taken};
 
-use branches::{Goals, Step};
+use branches::Step;
 
+const MOST_STEPS: usize = resolution::limits::MOST_STEPS as usize;
+
+// The first `depth` steps of the table are taken, the oldest first. By a rule of the project it is a plain table without an
+// invariant, so that each method says what it needs.
 #[derive(Drop)]
 pub(crate) struct Branch {
-    steps: [Step; 512],
+    steps: [Step; MOST_STEPS],
     depth: usize,
 }
 
 impl Branch {
     pub(crate) fn new() -> Branch
-        ensures { result.depth ≡ 0 }
+        ensures taken { taken result ≡ [] }
+        ensures depth { result.depth ≤ 512 }
     {
-        let goals = Goals {
-            place: 0,
-            level: 0,
-            left: 0,
-            above: 0,
-        };
-        let none = Step {
-            rule: 0,
-            goals,
-            level: 0,
-            mark: 0,
-        };
         Branch {
-            steps: [none; 512],
+            steps: [Step::default(); MOST_STEPS],
             depth: 0,
         }
     }
 
+    // How many steps are taken.
     pub(crate) fn depth(&self) -> usize
-        ensures { result ≡ self.now.depth }
+        requires { self.now.depth ≤ 512 }
+        ensures { result ≡ length (taken self.now) }
     {
         self.depth
     }
 
-    // The goals that the step with this number was tried on.
-    pub(crate) fn goals(&self, step: usize) -> Goals
-        requires { step < 512 }
-        ensures { result ≡ (get_or self.now.steps step no_step).goals }
+    // The steps taken.
+    pub(crate) fn taken(&self) -> &[Step]
+        requires { self.now.depth ≤ 512 }
+        ensures { result.now ≡ taken self.now }
     {
-        let step = &self.steps[step];
-        step.goals
-    }
-
-    // The step with this number.
-    pub(crate) fn step(&self, step: usize) -> Step
-        requires { step < 512 }
-        ensures { result ≡ slice_index_or self.now.steps step no_step }
-    {
-        self.steps[step]
+        &self.steps[..self.depth]
     }
 
     // The rule is the newest step.
-    pub(crate) fn take(&mut self, taken: Step)
-        requires { self.old.depth < 512 }
-        ensures steps { self.new.steps ≡ slice_set self.old.steps self.old.depth taken }
-        ensures depth { self.new.depth ≡ self.old.depth + 1 }
+    pub(crate) fn take(&mut self, step: Step)
+        requires { (self.old.depth ≤ 512) × (length (taken self.old) < 512) }
+        ensures taken { taken self.new ≡ taken self.old ++ step ∷ [] }
+        ensures depth { self.new.depth ≤ 512 }
     {
-        let step = &mut self.steps[self.depth];
-        step.rule = taken.rule;
-        step.goals = taken.goals;
-        step.level = taken.level;
-        step.mark = taken.mark;
+        let newest = &mut self.steps[self.depth];
+        *newest = step;
         self.depth += 1;
     }
 
-    // Takes off the newest step.
-    pub(crate) fn leave(&mut self) -> Step
-        requires { (0 < self.old.depth) × (self.old.depth ≤ 512) }
-        ensures step { result ≡ slice_index_or self.old.steps (self.old.depth - 1) no_step }
-        ensures steps { self.new.steps ≡ self.old.steps }
-        ensures depth { self.new.depth ≡ self.old.depth - 1 }
+    // Takes off the newest step, where there is one.
+    pub(crate) fn leave(&mut self) -> Option<Step>
+        requires { self.old.depth ≤ 512 }
+        ensures taken { taken self.old ≡ taken self.new ++ option_to_list result }
+        ensures depth { self.new.depth ≤ 512 }
+        ensures bare { result ≡ None → (taken self.old ≡ []) × (self.new ≡ self.old) }
     {
-        self.depth -= 1;
-        self.steps[self.depth]
+        let newest = self.depth.checked_sub(1)?;
+        self.depth = newest;
+        Some(self.steps[newest])
     }
 
     // No step is left.
     pub(crate) fn clear(&mut self)
-        ensures steps { self.new.steps ≡ self.old.steps }
-        ensures depth { self.new.depth ≡ 0 }
+        ensures taken { taken self.new ≡ [] }
+        ensures depth { self.new.depth ≤ 512 }
     {
         self.depth = 0;
     }

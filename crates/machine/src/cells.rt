@@ -1,36 +1,37 @@
 // The cells of the variables in use.
-ghost use Rattle.std.specs.Prelude.{◌≡◌, ℕ, ◌+◌, ◌<◌, ◌≤◌, List, length, slice_index_or};
-ghost use Rattle.bindings.specs.declared.Cell.TheVariants.{Free};
+ghost use Rattle.std.specs.Prelude.{◌≡◌, ℕ, List, slice_index_or, None};
+ghost use Rattle.bindings.specs.Cells.{Cell};
 ghost use Rattle.bindings.specs.Trails.{Since, none_bound};
+ghost use Rattle.machine.specs.Views.{Lent};
+ghost use Rattle.machine.specs.Tries.{Ordered};
 
+use crate::text::Text;
 use crate::view::View;
-use bindings::Cell;
+use bindings::{Binding, NONE_BOUND};
+use resolution::limits::MOST_CELLS;
 
-// What `newest` says where no cell is bound.
-const NONE_BOUND: u16 = 0xFFFF;
+pub(crate) const CELLS: usize = MOST_CELLS as usize;
 
-// The first `used` cells belong to variables in use; bound ones are linked from `newest` on. Every other is free.
+// The first `used` cells belong to variables in use; bound ones are linked from `newest` on. Every other is free. By a rule of
+// the project it is a plain table without an invariant.
 #[derive(Drop)]
 pub(crate) struct Cells {
-    pub(crate) table: [Cell; 2048],
+    pub(crate) table: [Option<Binding>; CELLS],
     pub(crate) used: u16,
     pub(crate) newest: u16,
 }
 
 // Takes back each binding from `newest` to `mark`.
-pub(crate) fn unwind(cells: &mut [Cell], newest: u16, mark: u16)
+pub(crate) fn unwind(cells: &mut [Option<Binding>], newest: u16, mark: u16)
     requires { (was : List Cell) × Since was mark cells.old newest }
     ensures { (was : List Cell) → Since was mark cells.old newest → cells.new ≡ was }
 {
     let mut at = newest;
     while at != mark {
         let i = at as usize;
-        match cells[i] {
-            Cell::Bound { before, .. } => {
-                cells[i] = Cell::Free;
-                at = before;
-            }
-            Cell::Free => unreachable(),
+        match cells[i].take() {
+            Some(binding) => at = binding.before,
+            None => unreachable(),
         }
     }
 }
@@ -38,24 +39,24 @@ pub(crate) fn unwind(cells: &mut [Cell], newest: u16, mark: u16)
 impl Cells {
     // Free cells, so many of them in use.
     pub(crate) fn new(used: u16) -> Cells
-        ensures free { (i : ℕ) → slice_index_or result.table i Free ≡ Free }
+        ensures free { (i : ℕ) → slice_index_or result.table i None ≡ None }
         ensures used { result.used ≡ used }
         ensures newest { result.newest ≡ none_bound }
     {
         Cells {
-            table: [Cell::Free; 2048],
+            table: [None; CELLS],
             used,
             newest: NONE_BOUND,
         }
     }
 
-    // The cells lent for reading.
-    pub(crate) fn view(&self) -> View<'_>
-        ensures cells { result.cells.now ≡ self.now.table }
-        ensures used { result.used ≡ self.now.used }
-        ensures newest { result.newest ≡ self.now.newest }
+    // The cells lent for reading with the text.
+    pub(crate) fn view<'a>(&'a self, text: &'a Text) -> View<'a>
+        requires { Ordered text.now.bytes self.now }
+        ensures { Lent text.now self.now result }
     {
         View {
+            text,
             cells: &self.table,
             used: self.used,
             newest: self.newest,

@@ -1,30 +1,37 @@
 // Unification of two facts that are given as bytes.
 ghost use Rattle.std.specs.Prelude.{◌≡◌, ℕ, ◌+◌, ◌<◌, ◌≤◌, List, length, slice_index_or};
-ghost use Rattle.bindings.specs.declared.Cell.TheVariants.{Free};
 ghost use Rattle.bindings.specs.Texts.{Holds};
 ghost use Rattle.bindings.specs.Trails.{none_bound};
+ghost use Rattle.machine.specs.declared.facts.FactsFault.TheVariants.{Reading};
 ghost use Rattle.machine.specs.Tries.{Ready, found, goal_term};
 ghost use Rattle.machine.specs.Facts.{instance_by, told, buffer_with, common_of, outcome, buffer_after};
 
 use crate::attempt::Head;
 use crate::branch::Branch;
 use crate::cells::Cells;
-use crate::instance::instance;
+use crate::instance::Instance;
+use crate::sink::write;
 use crate::tables::Tables;
 use crate::text::Text;
 use bindings::TermAt;
 use grammar::faults::SingleFault;
 use reading::rules::read_rule;
 
-// What comes of two facts.
+// Why two facts are refused.
 #[derive(Clone, Copy, PartialEq, Eq, Debug)]
-pub enum Unified {
-    // nothing makes them equal
-    No,
-    // how many bytes their common instance has
-    Yes(usize),
-    // it has more bytes than the buffer
-    Long,
+pub enum FactsFault {
+    // one of them cannot be read
+    Reading(SingleFault),
+    // their common instance has more bytes than the buffer
+    NoRoom,
+}
+
+impl From<SingleFault> for FactsFault {
+    ghost from_gives = { λ e r. r ≡ Reading e };
+
+    fn from(fault: SingleFault) -> FactsFault {
+        FactsFault::Reading(fault)
+    }
 }
 
 // Tables over a goal's bytes, with so many variables, and a head's bytes after them.
@@ -32,45 +39,56 @@ fn load(goal: &[u8], variables: u8, head: &[u8]) -> Tables
     requires { length goal.now + length head.now ≤ 16384 }
     ensures goal { Holds result.text.bytes 0 goal.now }
     ensures head { Holds result.text.bytes (length goal.now) head.now }
-    ensures size { length result.text.bytes ≡ 16384 }
-    ensures free { ((i : ℕ) → slice_index_or result.cells.table i Free ≡ Free) }
+    ensures size { length result.text.bytes ≤ 16384 }
+    ensures free { ((i : ℕ) → slice_index_or result.cells.table i None ≡ None) }
     ensures many { length result.cells.table ≡ 2048 }
     ensures used { result.cells.used ≡ variables }
     ensures newest { result.cells.newest ≡ none_bound }
-    ensures depth { result.branch.depth ≡ 0 }
 {
     let mut text = Text::new();
-    let _ = text.append(goal);
-    let _ = text.append(head);
+    text.append(goal);
+    text.append(head);
     Tables {
         text,
-        cells: Cells::new(variables as u16),
+        cells: Cells::new(u16::from(variables)),
         branch: Branch::new(),
     }
 }
 
 impl Tables {
-    // Tries the head on the goal, and writes the goal with what was found put in.
-    fn settle(&mut self, head: Head, goal: TermAt, buffer: &mut [u8]) -> Unified
+    // Tries the head on the goal, and writes the goal with what was found put in; how many bytes it has.
+    fn settle(
+        &mut self,
+        head: Head,
+        goal: TermAt,
+        buffer: &mut [u8],
+    ) -> Result<Option<usize>, FactsFault>
         requires ready { Ready self.old.text.bytes self.old.cells head goal }
         requires few { self.old.cells.used + head.variables ≤ 256 }
         ensures told { result ≡ told (instance_by (found self.old.text.bytes self.old.cells head goal) (goal_term self.old.text.bytes self.old.cells goal)) buffer.old }
         ensures buffer { buffer.new ≡ buffer_with (instance_by (found self.old.text.bytes self.old.cells head goal) (goal_term self.old.text.bytes self.old.cells goal)) buffer.old }
     {
         if !self.try_head(head, goal) {
-            return Unified::No;
+            return Ok(None);
         }
-        match instance(&self.cells.view(), &self.text, goal, buffer) {
-            Some(length) => Unified::Yes(length),
-            None => Unified::Long,
-        }
+        let instance = Instance {
+            view: self.cells.view(&self.text),
+            term: goal,
+        };
+        let length = write(&instance, buffer).ok_or(FactsFault::NoRoom)?;
+        Ok(Some(length))
     }
 }
 
-// Unifies the heads of two single rules, the variables of the left one apart from those of the right one, and
-// writes their common instance. In it a variable of the right rule has its own number; one of the left rule has
-// that number and the count of the right one's variables added.
-pub fn unify_facts(left: &[u8], right: &[u8], buffer: &mut [u8]) -> Result<Unified, SingleFault>
+// Unifies the heads of two single rules, the variables of the left one apart from those of the right one, writes
+// their common instance and returns its length, or none where nothing makes them equal. In the instance a variable of
+// the right rule has its own number; one of the left rule has that number and the count of the right one's variables
+// added.
+pub fn unify_facts(
+    left: &[u8],
+    right: &[u8],
+    buffer: &mut [u8],
+) -> Result<Option<usize>, FactsFault>
     ensures result { result ≡ outcome (common_of left.now right.now) buffer.old }
     ensures buffer { buffer.new ≡ buffer_after (common_of left.now right.now) buffer.old }
 {
@@ -81,5 +99,5 @@ pub fn unify_facts(left: &[u8], right: &[u8], buffer: &mut [u8]) -> Result<Unifi
         place: fact.head.len() as u16,
         variables: rule.variables,
     };
-    Ok(tables.settle(head, TermAt { place: 0, level: 0 }, buffer))
+    tables.settle(head, TermAt { place: 0, level: 0 }, buffer)
 }

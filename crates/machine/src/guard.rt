@@ -1,17 +1,16 @@
 // The guard of a try: it takes back what the try bound, unless it is told to keep it.
-ghost use Rattle.std.specs.Prelude.{◌≡◌, ℕ, ◌+◌, ◌<◌, true, false, List, length, slice_index_or, slice_set};
-ghost use Rattle.bindings.specs.declared.Cell.TheVariants.{Free, Bound};
+ghost use Rattle.std.specs.Prelude.{◌≡◌, ◌<◌, true, false, List, length, slice_index_or, slice_set, None, Some};
+ghost use Rattle.bindings.specs.Cells.{Cell};
 ghost use Rattle.bindings.specs.Trails.{Since};
-ghost use Rattle.bindings.specs.Shapes.{Shows};
-ghost use Rattle.machine.specs.Guards.{InOrder, Over, means, OnlyBound};
+ghost use Rattle.machine.specs.Guards.{OnlyBound};
 
 use crate::cells::unwind;
-use crate::text::Text;
-use crate::view::View;
-use bindings::{Cell, Shape, TermAt};
+use bindings::{Binding, TermAt};
 
+// By a rule of the project its one reference is the cells' slice, so that the text is a parameter and contracts ask for the
+// order, and a try that succeeds tells it to keep what was bound.
 pub(crate) struct Guard<'a> {
-    pub(crate) cells: &'a mut [Cell],
+    pub(crate) cells: &'a mut [Option<Binding>],
     // how many cells are in use
     pub(crate) used: u16,
     // the newest bound cell, now and before the try
@@ -54,31 +53,13 @@ impl Guard<'_> {
 
     // Binds a free cell to a term.
     pub(crate) fn bind(&mut self, cell: u16, term: TermAt)
-        requires { (cell < length self.old.cells.now) × (slice_index_or self.old.cells.now cell Free ≡ Free) }
-        ensures cells { self.new.cells.now ≡ slice_set self.old.cells.now cell (Bound term.place term.level self.old.newest) }
+        requires { (cell < length self.old.cells.now) × (slice_index_or self.old.cells.now cell None ≡ None) }
+        ensures cells { self.new.cells.now ≡ slice_set self.old.cells.now cell (Some (record { term = term; before = self.old.newest })) }
         ensures newest { self.new.newest ≡ cell }
         ensures only { OnlyBound self.old self.new }
     {
         let before = self.newest;
-        self.cells[cell as usize] = Cell::Bound {
-            place: term.place,
-            level: term.level,
-            before,
-        };
+        self.cells[cell as usize] = Some(Binding { term, before });
         self.newest = cell;
-    }
-
-    // The form of a term.
-    pub(crate) fn shape(&self, text: &Text, term: TermAt) -> Shape
-        requires sound { InOrder text.now.bytes self.now }
-        requires stands { Over text.now.bytes self.now term }
-        ensures { Shows text.now.bytes self.now.used self.now.cells.now self.now.newest (means text.now.bytes self.now term) result }
-    {
-        let view = View {
-            cells: &*self.cells,
-            used: self.used,
-            newest: self.newest,
-        };
-        view.shape(text, term)
     }
 }

@@ -1,44 +1,54 @@
 // The moves of a search: each says what the definition's place becomes.
-ghost use Rattle.std.specs.Prelude.{◌≡◌, length, IfOk};
-ghost use Rattle.reading.specs.Views.{seen};
+ghost use Rattle.std.specs.Prelude.{◌≡◌, length};
 ghost use Rattle.resolution.specs.Search.{opened};
-ghost use Rattle.slips.specs.Opening.{opening};
-ghost use Rattle.slips.specs.Slips.{slip_of, answer_bytes, slip_bytes};
 ghost use Rattle.branches.specs.Moves.{due_at, off, attempted};
-ghost use Rattle.machine.specs.Sinks.{fitting, written};
-ghost use Rattle.machine.specs.Machines.{rules, query as query_of, place, opened_with};
+ghost use Rattle.machine.specs.Machines.{rules, query as query_of, place};
 
+use crate::attempt::Head;
+use crate::cells::Cells;
 use crate::machine::Machine;
-use crate::state::State;
 use branches::Due;
-use slips::faults::OpeningFault;
-use stores::stores::Store;
+use resolution::Stop;
+use resolution::limits::{MOST_CELLS, MOST_STEPS};
 
 impl Machine {
-    // Opens a search over a store's rules and a query; both are copied.
-    pub fn open<S: Store>(store: &S, query: &[u8]) -> Result<Machine, OpeningFault>
-        ensures opened { seen opened_with result ≡ opening (S.Store.rules store.now) query.now }
-        ensures start { IfOk result (λ m. place m ≡ (opened (query_of m)).place) }
-    {
-        let state = State::open(store, query)?;
-        Ok(Machine { state })
-    }
-
     // What is due here.
     pub fn due(&self) -> Due
         ensures { result ≡ due_at (rules self.now) (place self.now) }
     {
-        self.state.due()
+        if self.goals.left == 0 {
+            return Due::Nothing;
+        }
+        if self.due as usize >= self.clauses.len() {
+            return Due::NoRule;
+        }
+        if self.tables.branch.depth() >= usize::from(MOST_STEPS) {
+            return Due::Stop(Stop::Deep);
+        }
+        let clause = self.clauses[self.due as usize];
+        if u16::from(clause.variables) > MOST_CELLS - self.tables.cells.used {
+            return Due::Stop(Stop::Cells);
+        }
+        Due::Rule
     }
 
-    // Takes off the newest step, and says whether there was one; without one everything stays.
+    // That rules and query stay is a clause of every move: no type says it of a part of a value.
+
+    // Takes off the newest step with its cells and every binding made since, and says whether there was one; without one
+    // everything stays.
     pub fn back(&mut self) -> bool
         ensures rules { rules self.new ≡ rules self.old }
         ensures query { query_of self.new ≡ query_of self.old }
         ensures value { result ≡ (off (place self.old).branch (place self.old)).0 }
         ensures place { place self.new ≡ (off (place self.old).branch (place self.old)).1 }
     {
-        self.state.back()
+        let Some(step) = self.tables.branch.leave() else {
+            return false;
+        };
+        self.tables.cells.back_to(step.level, step.mark);
+        self.goals = step.goals;
+        self.due = step.rule + 1;
+        true
     }
 
     // Tries the rule that is due, where a try can be made.
@@ -47,9 +57,21 @@ impl Machine {
         ensures query { query_of self.new ≡ query_of self.old }
         ensures place { place self.new ≡ attempted (rules self.old) (place self.old) }
     {
-        if let Due::Rule = self.state.due() {
-            self.state.attempt();
+        let Due::Rule = self.due() else {
+            return;
+        };
+        let clause = self.clauses[self.due as usize];
+        let level = self.tables.cells.used;
+        let head = Head {
+            place: clause.head,
+            variables: clause.variables,
+        };
+        if !self.tables.try_rule(self.due, head, self.goals) {
+            self.due += 1;
+            return;
         }
+        self.goals = self.tables.goals_with(clause, level, self.goals);
+        self.due = 0;
     }
 
     // Goes back to where the search was opened.
@@ -58,37 +80,23 @@ impl Machine {
         ensures query { query_of self.new ≡ query_of self.old }
         ensures place { place self.new ≡ (opened (query_of self.old)).place }
     {
-        self.state.rewind();
+        self.tables.branch.clear();
+        self.tables.cells = Cells::new(u16::from(self.question.variables));
+        self.goals = self.question.goals();
+        self.due = 0;
     }
 
     // How many steps the branch has.
     pub fn steps(&self) -> u16
         ensures { result ≡ length (place self.now).branch }
     {
-        self.state.tables.branch.depth() as u16
+        self.tables.branch.depth() as u16
     }
 
     // How many cells are in use.
     pub fn cells(&self) -> u16
         ensures { result ≡ length (place self.now).cells }
     {
-        self.state.tables.cells.used
-    }
-
-    // Writes the answer of this place at the beginning of the buffer and returns its length. One that is longer than the
-    // buffer leaves it as it was.
-    pub fn write_answer(&self, buffer: &mut [u8]) -> Option<usize>
-        ensures length { result ≡ fitting (answer_bytes (slip_of (rules self.now) (query_of self.now) (place self.now))) buffer.old }
-        ensures buffer { buffer.new ≡ written (answer_bytes (slip_of (rules self.now) (query_of self.now) (place self.now))) buffer.old }
-    {
-        self.state.write_answer(buffer)
-    }
-
-    // The same for the slip.
-    pub fn write_slip(&self, buffer: &mut [u8]) -> Option<usize>
-        ensures length { result ≡ fitting (slip_bytes (slip_of (rules self.now) (query_of self.now) (place self.now))) buffer.old }
-        ensures buffer { buffer.new ≡ written (slip_bytes (slip_of (rules self.now) (query_of self.now) (place self.now))) buffer.old }
-    {
-        self.state.write_slip(buffer)
+        self.tables.cells.used
     }
 }

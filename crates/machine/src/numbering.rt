@@ -5,57 +5,56 @@ ghost use Rattle.slips.specs.Slips.{position, appeared};
 ghost use Rattle.slips.specs.Numberings.{own, by_first, Numbers};
 ghost use Rattle.machine.specs.Numberings.{Named};
 
-use terms::Form;
+use crate::cells::CELLS;
 
-// What the table has for a cell that was not met.
-const UNMET: u16 = 0xFFFF;
-
-// In the form of rules a variable goes by its own cell. In the form of slips it is an unknown, and unknowns are numbered
-// from 0 in the order in which they are met.
+// The unknowns that were met, numbered from 0 in the order in which they were.
 #[derive(Drop)]
-pub(crate) struct Numbering {
-    pub(crate) form: Form,
-    // the number of each cell, and how many were met
-    pub(crate) numbers: [u16; 2048],
-    pub(crate) met: u16,
+pub(crate) struct Unknowns {
+    // the number of each cell that was met, and how many were
+    numbers: [Option<u16>; CELLS],
+    met: u16,
+}
+
+impl Unknowns {
+    // The number of a cell, the next one up where it is met for the first time.
+    pub(crate) fn number(&mut self, cell: u16) -> u16
+        requires { (used : ℕ) × (xs : List ℕ) × (cell < used) × Numbers self.old.numbers self.old.met used xs }
+        ensures number { (used : ℕ) (xs : List ℕ) → cell < used → Numbers self.old.numbers self.old.met used xs → result ≡ position cell (appeared xs (var cell)) }
+        ensures numbers { (used : ℕ) (xs : List ℕ) → cell < used → Numbers self.old.numbers self.old.met used xs → Numbers self.new.numbers self.new.met used (appeared xs (var cell)) }
+    {
+        if let Some(known) = self.numbers[cell as usize] {
+            return known;
+        }
+        let number = self.met;
+        self.numbers[cell as usize] = Some(number);
+        self.met += 1;
+        number
+    }
+}
+
+// How variables are named.
+#[derive(Drop)]
+pub(crate) enum Numbering {
+    // in the form of rules, by their own cells
+    ByCell,
+    // in the form of slips, as unknowns
+    ByFirst(Unknowns),
 }
 
 impl Numbering {
     pub(crate) fn by_cell() -> Numbering
         ensures { (used : ℕ) → used ≤ 256 → Named result used own }
     {
-        Numbering {
-            form: Form::Rules,
-            numbers: [UNMET; 2048],
-            met: 0,
-        }
+        Numbering::ByCell
     }
 
     // No unknown is met yet.
-    pub(crate) fn new() -> Numbering
+    pub(crate) fn by_first() -> Numbering
         ensures { (used : ℕ) → used ≤ 2048 → Named result used (by_first []) }
     {
-        Numbering {
-            form: Form::Slips,
-            numbers: [UNMET; 2048],
+        Numbering::ByFirst(Unknowns {
+            numbers: [None; CELLS],
             met: 0,
-        }
-    }
-
-    // The number of a cell, the next one up where it is met for the first time.
-    pub(crate) fn number(&mut self, cell: u16) -> u16
-        requires { (used : ℕ) × (xs : List ℕ) × (cell < used) × Numbers self.old.numbers self.old.met used xs }
-        ensures form { self.new.form ≡ self.old.form }
-        ensures number { (used : ℕ) (xs : List ℕ) → cell < used → Numbers self.old.numbers self.old.met used xs → result ≡ position cell (appeared xs (var cell)) }
-        ensures numbers { (used : ℕ) (xs : List ℕ) → cell < used → Numbers self.old.numbers self.old.met used xs → Numbers self.new.numbers self.new.met used (appeared xs (var cell)) }
-    {
-        let known = self.numbers[cell as usize];
-        if known != UNMET {
-            return known;
-        }
-        let number = self.met;
-        self.numbers[cell as usize] = number;
-        self.met = number + 1;
-        number
+        })
     }
 }

@@ -1,16 +1,15 @@
 // The tables of a search.
-ghost use Rattle.std.specs.Prelude.{◌≡◌, ℕ, ◌+◌, ◌-◌, ◌<◌, ◌≤◌, true, false, List, get_or, slice_index_or, slice_set};
-ghost use Rattle.bindings.specs.Trails.{Since};
-ghost use Rattle.machine.specs.Branches.{no_step};
+ghost use Rattle.std.specs.Prelude.{◌≡◌, ℕ, ◌+◌, ◌-◌, ◌<◌, ◌≤◌, true, false, ◌∷◌, ◌++◌, [], length, Some};
 ghost use Rattle.machine.specs.Tries.{Ready, Tried, first_at};
+ghost use Rattle.machine.specs.Branches.{taken};
 ghost use Rattle.machine.specs.Climbs.{Climbing, Climbed};
 
 use crate::attempt::{Head, attempt};
 use crate::branch::Branch;
 use crate::cells::Cells;
 use crate::text::Text;
-use bindings::{Cell, TermAt};
-use branches::{Goals, Step};
+use bindings::TermAt;
+use branches::{Clause, Goals, Step};
 
 #[derive(Drop)]
 pub(crate) struct Tables {
@@ -33,12 +32,12 @@ impl Tables {
     // Tries the rule with this number and head on the first of the goals; where it is taken it is the newest step.
     pub(crate) fn try_rule(&mut self, rule: u16, head: Head, goals: Goals) -> bool
         requires ready { Ready self.old.text.bytes self.old.cells head (first_at goals) }
-        requires room { self.old.branch.depth < 512 }
+        requires room { (self.old.branch.depth ≤ 512) × (length (taken self.old.branch) < 512) }
         ensures text { self.new.text ≡ self.old.text }
         ensures tried { Tried self.old.text.bytes self.old.cells head (first_at goals) self.new.cells result }
         ensures left { result ≡ false → self.new.branch ≡ self.old.branch }
-        ensures steps { result ≡ true → self.new.branch.steps ≡ slice_set self.old.branch.steps self.old.branch.depth (record { rule = rule; goals = goals; level = self.old.cells.used; mark = self.old.cells.newest }) }
-        ensures depth { result ≡ true → self.new.branch.depth ≡ self.old.branch.depth + 1 }
+        ensures depth { self.new.branch.depth ≤ 512 }
+        ensures steps { result ≡ true → taken self.new.branch ≡ taken self.old.branch ++ record { rule = rule; goals = goals; level = self.old.cells.used; mark = self.old.cells.newest } ∷ [] }
     {
         let step = Step {
             rule,
@@ -59,26 +58,9 @@ impl Tables {
         true
     }
 
-    // Takes off the newest step with its cells and every binding made since.
-    pub(crate) fn leave(&mut self) -> Step
-        requires steps { (0 < self.old.branch.depth) × (self.old.branch.depth ≤ 512) }
-        requires since { (was : List Cell) × Since was (get_or self.old.branch.steps (self.old.branch.depth - 1) no_step).mark self.old.cells.table self.old.cells.newest }
-        ensures step { result ≡ slice_index_or self.old.branch.steps (self.old.branch.depth - 1) no_step }
-        ensures text { self.new.text ≡ self.old.text }
-        ensures table { (was : List Cell) → Since was result.mark self.old.cells.table self.old.cells.newest → self.new.cells.table ≡ was }
-        ensures used { self.new.cells.used ≡ result.level }
-        ensures newest { self.new.cells.newest ≡ result.mark }
-        ensures steps { self.new.branch.steps ≡ self.old.branch.steps }
-        ensures depth { self.new.branch.depth ≡ self.old.branch.depth - 1 }
-    {
-        let step = self.branch.leave();
-        self.cells.back_to(step.level, step.mark);
-        step
-    }
-
     // The goals that remain behind the first of these: the others of its row, or else what remained behind the goal of
     // the step above, and so on up the branch.
-    pub(crate) fn behind(&self, goals: Goals) -> Goals
+    fn behind(&self, goals: Goals) -> Goals
         requires { Climbing self.now goals }
         ensures { Climbed self.now goals result }
     {
@@ -93,15 +75,29 @@ impl Tables {
                     above: at.above,
                 };
             }
-            if at.above == 0 {
-                return Goals {
-                    place: 0,
-                    level: 0,
-                    left: 0,
-                    above: 0,
-                };
-            }
-            at = self.branch.goals(at.above as usize - 1);
+            let Some(above) = at.above else {
+                return Goals::default();
+            };
+            at = self.branch.taken()[above as usize].goals;
+        }
+    }
+
+    // The goals once a rule was taken on the first of these, and its cells begin at `level`: its own, and behind them what
+    // remains behind the first of these.
+    pub(crate) fn goals_with(&self, clause: Clause, level: u16, goals: Goals) -> Goals
+        requires climbing { clause.goals ≡ 0 → Climbing self.now goals }
+        requires some { (self.now.branch.depth ≤ 512) × (0 < length (taken self.now.branch)) }
+        ensures own { 0 < clause.goals → result ≡ record { place = clause.body; level = level; left = clause.goals; above = Some (length (taken self.now.branch) - 1) } }
+        ensures behind { clause.goals ≡ 0 → Climbed self.now goals result }
+    {
+        if clause.goals == 0 {
+            return self.behind(goals);
+        }
+        Goals {
+            place: clause.body,
+            level,
+            left: clause.goals,
+            above: Some(self.branch.depth() as u16 - 1),
         }
     }
 }

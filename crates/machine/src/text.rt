@@ -1,57 +1,58 @@
 // The text: the bytes of rules and query in one table.
-ghost use Rattle.std.specs.Prelude.{◌≡◌, ℕ, ◌+◌, ◌<◌, ◌≤◌, length, slice_set};
+ghost use Rattle.std.specs.Prelude.{◌≡◌, ℕ, ◌+◌, ◌<◌, ◌≤◌, [], ◌++◌, length};
 ghost use Rattle.terms.specs.Terms.{Term};
-ghost use Rattle.bindings.specs.Overlays.{laid};
 ghost use Rattle.bindings.specs.Texts.{Spans};
 
+use arrayvec::ArrayVec;
 use bindings::TermAt;
+use grammar::bytes::{ATOM, VARIABLE};
+use grammar::limits::MOST_BYTES;
+use std::marker::Model;
 
-// the first byte of an atom, of a variable and of a pair
-pub(crate) const ATOM: u8 = 0x01;
-
-pub(crate) const VARIABLE: u8 = 0x02;
-
-pub(crate) const PAIR: u8 = 0x03;
-
-// A reference to it is one word.
+// It lies inside the search; whoever reads it borrows it.
 #[derive(Drop)]
 pub(crate) struct Text {
-    pub(crate) bytes: [u8; 16384],
-    pub(crate) used: usize,
+    pub(crate) bytes: ArrayVec<u8, MOST_BYTES>,
+}
+
+impl Model for Text {
+    ghost use Rattle.machine.specs.Texts.{Text as Bytes};
+
+    ghost Value = { Bytes };
+
+    ghost view = { λ t. record { bytes = t.bytes.items } };
 }
 
 impl Text {
     pub(crate) fn new() -> Text
-        ensures { result.used ≡ 0 }
+        ensures { result.bytes ≡ [] }
     {
         Text {
-            bytes: [0; 16384],
-            used: 0,
+            bytes: ArrayVec::new(),
         }
     }
 
-    // Puts a byte at the end.
-    pub(crate) fn push(&mut self, byte: u8)
-        requires { self.old.used < 16384 }
-        ensures bytes { self.new.bytes ≡ slice_set self.old.bytes self.old.used byte }
-        ensures used { self.new.used ≡ self.old.used + 1 }
+    // How many bytes it has.
+    pub(crate) fn len(&self) -> usize
+        ensures value { result ≡ length self.now.bytes }
+        ensures fits { result ≤ 16384 }
     {
-        self.bytes[self.used] = byte;
-        self.used += 1;
+        self.bytes.len()
     }
 
-    // Puts bytes at the end, one by one; the place where they begin.
-    pub(crate) fn append(&mut self, bytes: &[u8]) -> u16
-        requires { self.old.used + length bytes.now ≤ 16384 }
-        ensures place { result ≡ self.old.used }
-        ensures bytes { self.new.bytes ≡ laid self.old.used bytes.now self.old.bytes }
-        ensures used { self.new.used ≡ self.old.used + length bytes.now }
+    // Its bytes.
+    pub(crate) fn as_slice(&self) -> &[u8]
+        ensures { result.now ≡ self.now.bytes }
     {
-        let place = self.used as u16;
-        for byte in bytes.iter() {
-            self.push(*byte);
-        }
-        place
+        self.bytes.as_slice()
+    }
+
+    // Puts bytes at the end.
+    pub(crate) fn append(&mut self, bytes: &[u8])
+        requires { length self.old.bytes + length bytes.now ≤ 16384 }
+        ensures { self.new.bytes ≡ self.old.bytes ++ bytes.now }
+    {
+        self.bytes.try_extend_from_slice(bytes).unwrap();
     }
 
     // The place after the term that begins at `place`.
@@ -59,15 +60,7 @@ impl Text {
         requires { (t : Term) × (q : ℕ) × Spans self.now.bytes place t q }
         ensures { (t : Term) (q : ℕ) → Spans self.now.bytes place t q → result ≡ q }
     {
-        let tag = self.bytes[place];
-        if tag == ATOM {
-            return place + 3;
-        }
-        if tag == VARIABLE {
-            return place + 2;
-        }
-        let middle = self.end(place + 1);
-        self.end(middle)
+        term_end(self.as_slice(), place)
     }
 
     // The rest of a pair.
@@ -83,6 +76,22 @@ impl Text {
             level: pair.level,
         }
     }
+}
+
+// The place after the term that begins at `place` of these bytes.
+fn term_end(text: &[u8], place: usize) -> usize
+    requires { (t : Term) × (q : ℕ) × Spans text.now place t q }
+    ensures { (t : Term) (q : ℕ) → Spans text.now place t q → result ≡ q }
+{
+    let tag = text[place];
+    if tag == ATOM {
+        return place + 3;
+    }
+    if tag == VARIABLE {
+        return place + 2;
+    }
+    let middle = term_end(text, place + 1);
+    term_end(text, middle)
 }
 
 // The first part of a pair.

@@ -1,43 +1,46 @@
 // The cells as they are lent for reading.
-ghost use Rattle.std.specs.Prelude.{◌≡◌, ℕ, ◌+◌, ◌<◌};
+ghost use Rattle.std.specs.Prelude.{◌≡◌, ℕ, ◌+◌, ◌<◌, true};
+ghost use Rattle.bindings.specs.Checks.{sound?};
 ghost use Rattle.bindings.specs.Shapes.{Shows};
-ghost use Rattle.machine.specs.Views.{SeenInOrder, SeenOver, seen_as};
 
-use crate::text::{ATOM, Text, VARIABLE};
-use bindings::{Cell, Shape, TermAt};
+use crate::text::Text;
+use bindings::{Binding, Shape, TermAt};
+use grammar::bytes::{ATOM, VARIABLE};
 
+// The text, and cells that are in order over it.
 #[derive(Clone, Copy)]
 pub(crate) struct View<'a> {
-    pub(crate) cells: &'a [Cell],
+    pub(crate) text: &'a Text,
+    pub(crate) cells: &'a [Option<Binding>],
     // how many cells are in use, and the newest bound one
     pub(crate) used: u16,
     pub(crate) newest: u16,
+    ghost sound: { sound? text.now.bytes used cells.now newest ≡ true },
 }
 
 impl View<'_> {
+    ghost use Rattle.machine.specs.Views.{SeenOver, seen_as};
+
     // The form of a term: bound cells are looked up.
-    pub(crate) fn shape(&self, text: &Text, term: TermAt) -> Shape
-        requires sound { SeenInOrder text.now.bytes self.now }
-        requires stands { SeenOver text.now.bytes self.now term }
-        ensures { Shows text.now.bytes self.now.used self.now.cells.now self.now.newest (seen_as text.now.bytes self.now term) result }
+    pub(crate) fn shape(&self, term: TermAt) -> Shape
+        requires { SeenOver self.now term }
+        ensures { Shows self.now.text.now.bytes self.now.used self.now.cells.now self.now.newest (seen_as self.now term) result }
     {
+        let text = self.text.as_slice();
         let mut at = term;
         'looking: loop {
             let place = at.place as usize;
-            let tag = text.bytes[place];
+            let tag = text[place];
             if tag == ATOM {
-                return Shape::Atom(
-                    text.bytes[place + 1] as u16 * 256 + text.bytes[place + 2] as u16,
-                );
+                return Shape::Atom(u16::from_be_bytes([text[place + 1], text[place + 2]]));
             }
             if tag != VARIABLE {
                 return Shape::Pair(at);
             }
-            let cell = at.level + text.bytes[place + 1] as u16;
-            let found = self.cells[cell as usize];
-            match found {
-                Cell::Free => return Shape::Open(cell),
-                Cell::Bound { place, level, .. } => at = TermAt { place, level },
+            let cell = at.level + u16::from(text[place + 1]);
+            match self.cells[cell as usize] {
+                Some(binding) => at = binding.term,
+                None => return Shape::Open(cell),
             }
         }
     }

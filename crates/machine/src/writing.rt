@@ -1,115 +1,104 @@
 // Writing the answer or the slip of where a search stands.
-ghost use Rattle.std.specs.Prelude.{◌≡◌, ◌≤◌, true, length};
-ghost use Rattle.slips.specs.Slips.{answer_bytes, steps_bytes, slip_bytes};
-ghost use Rattle.machine.specs.States.{good, text_of};
+ghost use Rattle.std.specs.Prelude.{◌≡◌, ◌≤◌, length};
+ghost use Rattle.slips.specs.Slips.{slip_of, answer_bytes, steps_bytes, slip_bytes};
+ghost use Rattle.machine.specs.Machines.{rules, query as query_of, place, state};
 ghost use Rattle.machine.specs.Sinks.{Puts, Passed, fitting, written};
 ghost use Rattle.machine.specs.Numberings.{Met};
-ghost use Rattle.machine.specs.Writings.{slip_at, output_bytes, Lent};
+ghost use Rattle.machine.specs.Writings.{slip_at};
+ghost use Rattle.machine.specs.Views.{Lent};
 
-use crate::instance::Sink;
+use crate::instance::Writer;
+use crate::machine::Machine;
 use crate::numbering::Numbering;
-use crate::slip::{StepCells, write_answer, write_step};
-use crate::state::State;
+use crate::sink::{NoRoom, Sink, Written, write};
+use crate::slip::StepCells;
 use crate::view::View;
+use grammar::bytes::END;
 
-// the last byte of a slip
-const END: u8 = 0x2F;
-
-// What is written.
+// The answer of where a search stands.
 #[derive(Clone, Copy)]
-enum Output {
-    Answer,
-    Slip,
+struct AnswerOf<'a> {
+    machine: &'a Machine,
 }
 
-impl State {
-    // Puts the steps, oldest first, once the cells of the query are met.
-    fn put_steps(&self, view: &View, numbering: &mut Numbering, sink: &mut Sink) -> bool
-        requires good { good self.now ≡ true }
-        requires lent { Lent self.now view.now }
-        requires met { Met (text_of self.now) view.now self.now.question.variables numbering.old }
-        requires room { sink.old.count ≤ length sink.old.buffer.now }
-        ensures { Puts sink.old sink.new (steps_bytes (slip_at self.now).steps) result }
+// The slip of where it stands.
+#[derive(Clone, Copy)]
+struct SlipOf<'a> {
+    machine: &'a Machine,
+}
+
+impl Machine {
+    // Lends the cells over the text.
+    fn view(&self) -> View<'_>
+        ensures { Lent self.now.tables.text self.now.tables.cells result }
     {
-        for i in 0..self.tables.branch.depth() {
-            let step = self.tables.branch.step(i);
-            let clause = self.clauses.clause(step.rule);
+        self.tables.cells.view(&self.tables.text)
+    }
+
+    // Puts the steps, oldest first, once the cells of the query are met.
+    fn put_steps(&self, view: &View, writer: &mut Writer) -> Result<(), NoRoom>
+        requires lent { Lent self.now.tables.text self.now.tables.cells view.now }
+        requires met { Met view.now self.now.question.variables writer.old.numbering }
+        requires room { writer.old.sink.now.count ≤ length writer.old.sink.now.buffer.now }
+        ensures same { writer.new.sink.ghost_name ≡ writer.old.sink.ghost_name }
+        ensures puts { Puts writer.old.sink.now writer.new.sink.now (steps_bytes (slip_at (state self.now)).steps) result }
+    {
+        for step in self.tables.branch.taken() {
+            let clause = self.clauses[step.rule as usize];
             let cells = StepCells {
                 rule: step.rule,
                 level: step.level,
                 variables: clause.variables,
             };
-            if !write_step(view, &self.tables.text, cells, numbering, sink) {
-                return false;
-            }
+            view.write_step(cells, writer)?;
         }
-        true
+        Ok(())
     }
 
-    // Puts the answer, or the whole slip, which begins with it.
-    fn put(&self, output: Output, sink: &mut Sink) -> bool
-        requires { good self.now ≡ true }
-        ensures { Puts sink.old sink.new (output_bytes output (slip_at self.now)) result }
+    // Writes the answer of this place at the beginning of the buffer and returns its length. One that is longer than the
+    // buffer leaves it as it was.
+    pub fn write_answer(&self, buffer: &mut [u8]) -> Option<usize>
+        ensures length { result ≡ fitting (answer_bytes (slip_of (rules self.now) (query_of self.now) (place self.now))) buffer.old }
+        ensures buffer { buffer.new ≡ written (answer_bytes (slip_of (rules self.now) (query_of self.now) (place self.now))) buffer.old }
     {
-        let view = self.tables.cells.view();
-        let mut numbering = Numbering::new();
-        if !write_answer(
-            &view,
-            &self.tables.text,
-            self.question.variables,
-            &mut numbering,
+        write(&AnswerOf { machine: self }, buffer)
+    }
+
+    // The same for the slip. The two differ in what is lent to `write`, and that is one word of each.
+    pub fn write_slip(&self, buffer: &mut [u8]) -> Option<usize>
+        ensures length { result ≡ fitting (slip_bytes (slip_of (rules self.now) (query_of self.now) (place self.now))) buffer.old }
+        ensures buffer { buffer.new ≡ written (slip_bytes (slip_of (rules self.now) (query_of self.now) (place self.now))) buffer.old }
+    {
+        write(&SlipOf { machine: self }, buffer)
+    }
+}
+
+impl Written for AnswerOf<'_> {
+    ghost bytes = { λ a. answer_bytes (slip_at (state a.machine.now)) };
+
+    fn put(&self, sink: &mut Sink) -> Result<(), NoRoom> {
+        let mut writer = Writer {
+            numbering: Numbering::by_first(),
             sink,
-        ) {
-            return false;
-        }
-        match output {
-            Output::Answer => true,
-            Output::Slip => self.put_steps(&view, &mut numbering, sink) && sink.put(END),
-        }
-    }
-
-    // Puts it into a sink over the buffer; how many bytes there are, where it has room for them.
-    fn pass(&self, output: Output, buffer: &mut [u8], writing: bool) -> Option<usize>
-        requires { good self.now ≡ true }
-        ensures { Passed writing buffer.old buffer.new (output_bytes output (slip_at self.now)) result }
-    {
-        let mut sink = Sink {
-            buffer,
-            count: 0,
-            writing,
         };
-        if !self.put(output, &mut sink) {
-            return None;
-        }
-        Some(sink.count)
+        self.machine
+            .view()
+            .write_answer(self.machine.question.variables, &mut writer)
     }
+}
 
-    // Counts it first, and then writes it.
-    fn write(&self, output: Output, buffer: &mut [u8]) -> Option<usize>
-        requires { good self.now ≡ true }
-        ensures length { result ≡ fitting (output_bytes output (slip_at self.now)) buffer.old }
-        ensures buffer { buffer.new ≡ written (output_bytes output (slip_at self.now)) buffer.old }
-    {
-        self.pass(output, buffer, false)?;
-        self.pass(output, buffer, true)
-    }
+impl Written for SlipOf<'_> {
+    ghost bytes = { λ s. slip_bytes (slip_at (state s.machine.now)) };
 
-    // Writes the answer at the beginning of the buffer and returns its length; one that is longer leaves the buffer as
-    // it was.
-    pub(crate) fn write_answer(&self, buffer: &mut [u8]) -> Option<usize>
-        requires { good self.now ≡ true }
-        ensures length { result ≡ fitting (answer_bytes (slip_at self.now)) buffer.old }
-        ensures buffer { buffer.new ≡ written (answer_bytes (slip_at self.now)) buffer.old }
-    {
-        self.write(Output::Answer, buffer)
-    }
-
-    // The same for the slip.
-    pub(crate) fn write_slip(&self, buffer: &mut [u8]) -> Option<usize>
-        requires { good self.now ≡ true }
-        ensures length { result ≡ fitting (slip_bytes (slip_at self.now)) buffer.old }
-        ensures buffer { buffer.new ≡ written (slip_bytes (slip_at self.now)) buffer.old }
-    {
-        self.write(Output::Slip, buffer)
+    // The answer comes first.
+    fn put(&self, sink: &mut Sink) -> Result<(), NoRoom> {
+        let view = self.machine.view();
+        let mut writer = Writer {
+            numbering: Numbering::by_first(),
+            sink,
+        };
+        view.write_answer(self.machine.question.variables, &mut writer)?;
+        self.machine.put_steps(&view, &mut writer)?;
+        writer.sink.put(END)
     }
 }

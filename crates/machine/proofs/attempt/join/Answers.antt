@@ -1,6 +1,5 @@
-use Rattle.std.proofs.Common.{◌≡◌, true, false, sym, ap, ◌∙◌, rules}
+use Rattle.std.proofs.Common.{◌≡◌, true, false, sym, ap, ◌∙◌, rules, true≢false}
 use Rattle.bindings.specs.Trails.{Since}
-use Rattle.bindings.proofs.Chains.{true_not_false}
 use Rattle.bindings.proofs.Links.{sound_mark}
 use Rattle.bindings.proofs.Endings.{failed_ends}
 use Rattle.machine.specs.declared.guard.Guard.{Guard}
@@ -25,9 +24,9 @@ returns c =
           let k : c.if-joined.guard.keep ≡ true = ap (λ (g : Guard). g.keep) w.guard-is ∙ w.keep.ensures.keep in
           let e : c.drop-guard.new.self.0 ≡ c.if-joined.guard.cells.now = c.drop-guard.ensures.kept k in
           record {
-            cells = λ f. absurd (true_not_false (sym w.if-joined.true ∙ f));
-            newest = λ f. absurd (true_not_false (sym w.if-joined.true ∙ f));
-            since = λ _ was m s. let p : Since was m c.unify-joined.new.guard.cells.now c.unify-joined.new.guard.newest = c.unify-joined.ensures.only.since was m s in search rules;
+            cells = λ f. absurd (true≢false (sym w.if-joined.true ∙ f));
+            newest = λ f. absurd (true≢false (sym w.if-joined.true ∙ f));
+            since = λ _ was m s. let p : Since was m c.unify-joined.new.self.cells.now c.unify-joined.new.self.newest = c.unify-joined.ensures.only.since was m s in search rules;
             ends = let p = c.unify-joined.ensures.ends in search rules;
           }
       | else-joined w ↦
@@ -37,7 +36,7 @@ returns c =
           record {
             cells = λ _. search rules;
             newest = λ _. w.newest-is;
-            since = λ t. absurd (true_not_false (sym t ∙ w.if-joined.false));
+            since = λ t. absurd (true≢false (sym t ∙ w.if-joined.false));
             ends = failed_ends _ c.unify-joined.ensures.ends w.if-joined.false;
           }
     ]

@@ -1,5 +1,5 @@
 use Rattle.std.proofs.Common.{◌<◌, List}
-use Rattle.bindings.specs.declared.Cell.{Cell}
+use Rattle.bindings.specs.Cells.{Cell}
 use Rattle.bindings.specs.Trails.{Since, bound_count}
 use Rattle.machine.proofs.cells.unwind.Given as goal
 

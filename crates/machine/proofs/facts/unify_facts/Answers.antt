@@ -1,4 +1,4 @@
-use Rattle.std.proofs.Common.{Ok, Result, sym, ap, ◌∙◌, arith, rules}
+use Rattle.std.proofs.Common.{Result, sym, ap, ◌∙◌, arith, rules}
 use mathlib.Core.Option.{Option}
 use Rattle.terms.specs.Terms.{Term}
 use Rattle.grammar.specs.declared.faults.SingleFault.{SingleFault}
@@ -46,7 +46,8 @@ returns c =
     let is = both_common a b t.text.bytes t.cells l.goal l.head l.size l.many l.free l.used l.newest in
     record {
       result =
-          ap Ok (c.settle.ensures.told ∙ ap (λ (o : Option Term). told o c.args.buffer.now) is)
+          c.settle.ensures.told
+          ∙ ap (λ (o : Option Term). told o c.args.buffer.now) is
           ∙ ap (λ (r : Result (Option Term) SingleFault). outcome r c.args.buffer.now) (sym (both_read a b));
       buffer =
           c.settle.ensures.buffer

@@ -1,20 +1,16 @@
-use Rattle.std.proofs.Common.{List, ℕ}
+use Rattle.std.proofs.Common.{List, ℕ, Option, ap, ◌∙◌}
+use Rattle.std.specs.Option.{ok_or}
+use Rattle.slips.specs.declared.faults.WriteRefusal.TheVariants.{NoRoom}
 use Rattle.slips.specs.Slips.{slip_of, slip_bytes}
 use Rattle.engine.specs.declared.hands.Answer.{Answer}
 use Rattle.engine.specs.Models.{rules_of, query_of, model}
-use Rattle.engine.proofs.Buffers.{wrote_some, wrote_none}
+use Rattle.engine.proofs.Buffers.{wrote_fitting}
 use Rattle.engine.proofs.hands.Answer.slip.Goals as goal
 
 -- what is to be written
 abbrev due : Answer → List ℕ
 due a = let s = a.search.now in slip_bytes (slip_of (rules_of s) (query_of s) (model s).place)
 
-pub returns-in-Some : goal.returns-in-Some
-returns-in-Some c =
-    let e = c.in-Some.ensures in
-    wrote_some (due c.args.self.now) c.args.buffer.now c.write_slip.new.buffer e.buffer c.in-Some.length e.length
-
-pub returns-in-None : goal.returns-in-None
-returns-in-None c =
-    let e = c.in-None.ensures in
-    wrote_none (due c.args.self.now) c.args.buffer.now c.write_slip.new.buffer e.buffer e.length
+pub returns : goal.returns
+returns c =
+    wrote_fitting (due c.args.self.now) c.args.buffer.now c.write_slip.new.buffer _ (c.ok_or.ensures.value ∙ ap (λ (o : Option ℕ). ok_or o NoRoom) c.write_slip.ensures.length) c.write_slip.ensures.buffer

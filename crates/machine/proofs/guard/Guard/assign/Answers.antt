@@ -1,15 +1,8 @@
-use Rattle.std.proofs.Common.{sym, ◌∙◌, arith}
-use Rattle.bindings.specs.Trails.{meaning_at}
-use Rattle.bindings.proofs.Endings.{assign_no, assign_yes}
-use Rattle.machine.proofs.Turns.{only_nothing}
+use Rattle.std.proofs.Common.{sym, ap, ◌∙◌, arith}
+use Rattle.unification.specs.Variables.{occurs}
+use Rattle.bindings.proofs.Endings.{assign_yes}
+use Rattle.machine.proofs.Turns.{means_lent}
 use Rattle.machine.proofs.guard.Guard.assign.Goals as goal
-
-pub returns-then-occurs : goal.returns-then-occurs
-returns-then-occurs c =
-    record {
-      only = only_nothing _;
-      ends = assign_no c.args.cell (meaning_at c.args.text.now.bytes c.args.self.now.cells.now c.args.self.now.newest c.args.term) (sym c.occurs.ensures ∙ c.if-occurs.true);
-    }
 
 pub bind-requires : goal.bind-requires
 bind-requires c = (omega (arith, c.requires.inside, c.requires.sound.room), c.requires.free)
@@ -20,5 +13,5 @@ returns c =
       only = c.bind.ensures.only;
       ends =
           assign_yes _ _ _ _ _ _ c.args.cell c.args.term c.requires.sound c.requires.stands c.requires.inside c.requires.free
-          (sym c.occurs.ensures ∙ c.if-occurs.false) c.bind.ensures.cells c.bind.ensures.newest;
+          (sym (c.occurs.ensures ∙ ap (occurs c.args.cell) (means_lent c.args.text.now c.args.self.now c.view.ensures c.args.term)) ∙ c.if-occurs.false) c.bind.ensures.cells c.bind.ensures.newest;
     }

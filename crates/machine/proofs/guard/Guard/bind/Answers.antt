@@ -14,6 +14,6 @@ returns c =
             keep = refl;
             same = refl;
             many = length-set _ _ _;
-            since = λ was m s. bind_since was m _ _ c.args.cell c.args.term.place c.args.term.level c.requires.0 c.requires.1 s;
+            since = λ was m s. bind_since was m _ _ c.args.cell c.args.term c.requires.0 c.requires.1 s;
           };
     }

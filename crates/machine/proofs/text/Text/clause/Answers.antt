@@ -1,4 +1,4 @@
-use Rattle.std.proofs.Common.{◌≡◌, ℕ, ◌+◌, length, get_or, ap, ◌∙◌, subst, ap₂, arith, rules}
+use Rattle.std.proofs.Common.{◌≡◌, ℕ, ◌+◌, List, length, get_or, ◌∙◌, subst, ap₂, arith, rules}
 use Rattle.terms.specs.declared.Form.TheVariants.{Rules}
 use Rattle.terms.specs.Bytes.{encoding}
 use Rattle.bindings.proofs.Texts.{inside}
@@ -23,5 +23,5 @@ returns c = λ r f h.
     let e = c.end.ensures _ _ (head_spans c.args.self.now.bytes c.args.begin r f h) in
     let two : c.args.begin + 1 + 1 ≡ c.args.begin + 2 = omega arith in
     let goals = subst (λ (n : ℕ). get_or c.args.self.now.bytes n 0 ≡ length r.goals) two h.2.2.1 in
-    ap (λ (b : ℕ). record { head = c.args.begin + 5; body = b; variables = get_or c.args.self.now.bytes (c.args.begin + 1) 0; goals = get_or c.args.self.now.bytes (c.args.begin + 2) 0 }) e
+    ap₂ (λ (b : ℕ) (x : List ℕ). record { head = c.args.begin + 5; body = b; variables = get_or x (c.args.begin + 1) 0; goals = get_or x (c.args.begin + 2) 0 }) e c.as_slice-text.ensures
     ∙ ap₂ (λ (v g : ℕ). record { head = c.args.begin + 5; body = c.args.begin + 5 + length (encoding Rules r.head); variables = v; goals = g }) h.2.1 goals
