@@ -1,8 +1,8 @@
 // The checker of slips: it searches nothing, and needs no memory but its own fixed tables.
 #![tactic(auto)]
 
-mod comparison;
 mod cursors;
+mod limits;
 mod parts;
 mod places;
 mod progress;
@@ -13,7 +13,7 @@ ghost use Rattle.slips.specs.Checker.{check as check_definition};
 ghost use Rattle.slips.specs.Opening.{rules_in};
 ghost use Rattle.comparing.specs.Runs.{FollowsIfPassed};
 
-use progress::{Progress, counted};
+use progress::Progress;
 use reading::rules::read_query;
 use slips::faults::CheckFault;
 use stores::stores::Store;
@@ -28,7 +28,14 @@ pub fn check<S: Store>(store: &S, query: &[u8], slip: &[u8]) -> Result<(), Check
     let texts = Texts {
         store,
         body: asked.body,
+        slip,
     };
-    let mut progress = counted(0, Progress::start(slip, asked.variables))?;
-    progress.run(&texts, slip)
+    let mut progress = Progress::new();
+    progress
+        .start(slip, asked.variables)
+        .map_err(|fault| CheckFault::InSlip { fault, steps: 0 })?;
+    progress.run(&texts).map_err(|fault| CheckFault::InSlip {
+        fault,
+        steps: progress.steps,
+    })
 }

@@ -1,37 +1,51 @@
-// The texts that a slip is checked by: the goals of the query, and the rules of a store.
-ghost use Rattle.std.specs.Prelude.{◌≡◌, ℕ, ◌≤◌, List, length};
+// What a slip is checked by: the rules of a store, the goals of the query, and the slip itself.
+ghost use Rattle.std.specs.Prelude.{◌≡◌, ℕ, ◌+◌, ◌^◌, ◌<◌, ◌≤◌, List, length, OnSome};
+ghost use Rattle.terms.specs.declared.Form.TheVariants.{Rules};
+ghost use Rattle.terms.specs.Terms.{Term};
+ghost use Rattle.reading.specs.Taking.{size as command_size};
 ghost use Rattle.stores.specs.Answers.{byte_at};
 ghost use Rattle.slips.specs.Checker.{has_rule};
 ghost use Rattle.slips.specs.Opening.{rules_in};
+ghost use Rattle.comparing.specs.Stacks.{Stacked};
+ghost use Rattle.comparing.specs.Stages.{has_some, Next};
 ghost use Rattle.comparing.specs.Streams.{text_first};
-ghost use Rattle.terms.specs.Terms.{Term};
-ghost use Rattle.comparing.specs.Stages.{has_some};
-ghost use Rattle.comparing.specs.Texts.{text_in, Comes};
+ghost use Rattle.comparing.specs.Texts.{text_of, Comes};
 
+use crate::limits::{FRAMES, VARIABLES};
+use arrayvec::ArrayVec;
 use comparing::{Cursor, Source};
+use grammar::bytes::{PAIR, VARIABLE};
 use grammar::commands::Command;
 use stores::stores::Store;
 
-// how many bytes a variable, an atom and a pair have in a text
-pub(crate) const VARIABLE: u16 = 2;
-
-pub(crate) const ATOM: u16 = 3;
-
-pub(crate) const PAIR: u16 = 1;
-// where a rule says how many variables it has
-const VARIABLES: u16 = 1;
-
-#[derive(Clone, Copy)]
-pub(crate) struct Texts<'a, 'b, S> {
+#[derive(Drop)]
+pub(crate) struct Texts<'a, S> {
     pub(crate) store: &'a S,
     // the goals of the query, one after the other
-    pub(crate) body: &'b [u8],
+    pub(crate) body: &'a [u8],
+    pub(crate) slip: &'a [u8],
+    ghost short: { length body.now ≤ 512 },
+    // so many terms can be counted as may be due in the slip and a text
+    ghost countable: { length slip.now + 518 < 2 ^ 64 },
 }
 
-impl<'a, 'b, S: Store> Texts<'a, 'b, S> {
+// How many bytes a command has in a text. The reader has this for either form, inside it, with places of another width.
+pub(crate) fn size(command: Command) -> u16
+    ensures { result ≡ command_size Rules command }
+{
+    match command {
+        Command::Pair => 1,
+        Command::Var(_) => 2,
+        Command::Atom(_) => 3,
+    }
+}
+
+impl<'a, S: Store> Texts<'a, S> {
+    ghost use Rattle.checker.specs.Texts.{sources};
+
     // A byte of a text.
-    pub(crate) fn byte(&self, source: Source, at: u16) -> Option<u8>
-        ensures { result ≡ byte_at at (text_in (S.Store.rules self.now.store.now) self.now.body.now source) }
+    fn byte(&self, source: Source, at: u16) -> Option<u8>
+        ensures { result ≡ byte_at at (text_of (sources S.Store.rules self.now) source) }
     {
         match source {
             Source::Query => self.body.get(at as usize).copied(),
@@ -41,41 +55,45 @@ impl<'a, 'b, S: Store> Texts<'a, 'b, S> {
 
     // The command that stands at a place of a text; none at its end.
     pub(crate) fn command(&self, source: Source, at: u16) -> Option<Command>
-        requires { length self.now.body.now ≤ 512 }
-        ensures { result ≡ text_first (text_in (S.Store.rules self.now.store.now) self.now.body.now source) at }
+        ensures { result ≡ text_first (text_of (sources S.Store.rules self.now) source) at }
     {
         let first = self.byte(source, at)?;
-        if first == 0x03 {
+        if first == PAIR {
             return Some(Command::Pair);
         }
         let next = self.byte(source, at + 1)?;
-        if first == 0x02 {
+        if first == VARIABLE {
             return Some(Command::Var(u16::from(next)));
         }
         let last = self.byte(source, at + 2)?;
-        Some(Command::Atom(u16::from(next) * 256 + u16::from(last)))
+        Some(Command::Atom(u16::from_be_bytes([next, last])))
     }
 
     // There is a rule with this number that has so many variables.
     pub(crate) fn has_rule(&self, rule: u16, variables: u8) -> bool
         ensures { result ≡ has_rule (rules_in (S.Store.rules self.now.store.now)) rule variables }
     {
-        match self.store.byte(rule, VARIABLES) {
-            Some(declared) => variables == declared,
-            None => false,
-        }
+        self.store.byte(rule, VARIABLES) == Some(variables)
     }
 
     // Something is to come at a cursor.
-    pub(crate) fn more(&self, cursor: Cursor) -> bool
-        ensures { (slip table : List ℕ) (used : ℕ) (pending : List Term) → Comes (S.Store.rules self.now.store.now) self.now.body.now slip table used cursor pending → result ≡ has_some pending }
+    fn more(&self, cursor: &Cursor) -> bool
+        ensures { (table : List ℕ) (pending : List Term) → Comes (sources S.Store.rules self.now) table cursor.now pending → result ≡ has_some pending }
     {
-        if cursor.due > 0 {
-            return true;
+        cursor.inside.is_some() || self.byte(cursor.source, cursor.place).is_some()
+    }
+
+    // Takes off the frames that are done, and then the top one of the others, which has the next goal; none where no goal
+    // remains.
+    pub(crate) fn next_frame(&self, frames: &mut ArrayVec<Cursor, FRAMES>) -> Option<Cursor>
+        ensures next { (table : List ℕ) (goals : List Term) → Stacked (Comes (sources S.Store.rules self.now) table) frames.old.items goals → Next (sources S.Store.rules self.now) table frames.new.items result goals }
+        ensures fewer { OnSome result (length frames.new.items < length frames.old.items) }
+    {
+        while let Some(top) = frames.pop() {
+            if self.more(&top) {
+                return Some(top);
+            }
         }
-        match self.byte(cursor.source, cursor.place) {
-            Some(_) => true,
-            None => false,
-        }
+        None
     }
 }

@@ -1,5 +1,6 @@
 -- Comparing two streams of commands is comparing terms. Assumes nothing.
-use Rattle.std.proofs.Common.{◌≡◌, ℕ, suc, ◌+◌, ◌-◌, ◌<◌, Bool, true, false, ◌&&◌, eqb, List, [], ◌∷◌, ◌++◌, length, Some, None, sym, refl, ap, ◌∙◌, subst, arith}
+use Rattle.std.proofs.Common.{◌≡◌, ℕ, suc, ◌+◌, ◌-◌, ◌<◌, true, false, ◌&&◌, List, [], ◌∷◌, ◌++◌, length, Some, sym, refl, ap, ◌∙◌, subst, arith}
+use Rattle.std.proofs.Math.Bool.{and-true, and_assoc}
 use Rattle.std.proofs.lemmas.Bool.{eq-eqb, ne_eqb}
 use Rattle.terms.specs.Terms.{Term, var, atom, pair}
 use Rattle.grammar.specs.declared.commands.Command.{Command}
@@ -9,18 +10,6 @@ use Rattle.comparing.specs.Streams.{first_of, after_first, due_after}
 use Rattle.comparing.specs.Cursors.{Took}
 use Rattle.comparing.specs.Comparisons.{all_same, Comparing, Compared}
 use Rattle.comparing.proofs.Cursors.{first_append, after_append}
-
-and_true : (b : Bool) → b ≡ (b && true)
-and_true true = refl
-and_true false = refl
-
-and_assoc : (a b c : Bool) → ((a && b) && c) ≡ (a && (b && c))
-and_assoc true b c = refl
-and_assoc false b c = refl
-
-and_with : (a b : Bool) → a ≡ true → (a && b) ≡ b
-and_with true b e = refl
-and_with false b e = let z : ◌≡◌ {A = ℕ} 0 1 = cc in absurd (omega arith)
 
 -- two lists that begin with the same command
 record Next (x : Term) (xs : List Term) (y : Term) (ys : List Term) (c : Command) : Type 0 where
@@ -34,7 +23,7 @@ next (var a) xs (var b) ys c e f =
     let right : c ≡ Var b = cc in
     let number : a ≡ b = cc in
     record {
-      keeps = and_with (eqb a b) (all_same xs ys) (eq-eqb a b number);
+      keeps = ap (λ t. t && all_same xs ys) (eq-eqb a b number);
       lefts = ap (due_after (length xs)) (sym left);
       rights = ap (due_after (length ys)) (sym right);
     }
@@ -43,7 +32,7 @@ next (atom a) xs (atom b) ys c e f =
     let right : c ≡ Atom b = cc in
     let number : a ≡ b = cc in
     record {
-      keeps = and_with (eqb a b) (all_same xs ys) (eq-eqb a b number);
+      keeps = ap (λ t. t && all_same xs ys) (eq-eqb a b number);
       lefts = ap (due_after (length xs)) (sym left);
       rights = ap (due_after (length ys)) (sym right);
     }
@@ -54,12 +43,12 @@ next (pair s t) xs (pair u w) ys c e f =
       lefts = (let n : suc (suc (length xs)) ≡ length xs + 2 = omega arith in n) ∙ ap (due_after (length xs)) (sym left);
       rights = (let n : suc (suc (length ys)) ≡ length ys + 2 = omega arith in n) ∙ ap (due_after (length ys)) (sym left);
     }
-next (var a) xs (atom b) ys c e f = let z : ◌≡◌ {A = ℕ} 0 1 = cc in absurd (omega arith)
-next (var a) xs (pair u w) ys c e f = let z : ◌≡◌ {A = ℕ} 0 1 = cc in absurd (omega arith)
-next (atom a) xs (var b) ys c e f = let z : ◌≡◌ {A = ℕ} 0 1 = cc in absurd (omega arith)
-next (atom a) xs (pair u w) ys c e f = let z : ◌≡◌ {A = ℕ} 0 1 = cc in absurd (omega arith)
-next (pair s t) xs (var b) ys c e f = let z : ◌≡◌ {A = ℕ} 0 1 = cc in absurd (omega arith)
-next (pair s t) xs (atom b) ys c e f = let z : ◌≡◌ {A = ℕ} 0 1 = cc in absurd (omega arith)
+next (var a) xs (atom b) ys c e f = absurd cc
+next (var a) xs (pair u w) ys c e f = absurd cc
+next (atom a) xs (var b) ys c e f = absurd cc
+next (atom a) xs (pair u w) ys c e f = absurd cc
+next (pair s t) xs (var b) ys c e f = absurd cc
+next (pair s t) xs (atom b) ys c e f = absurd cc
 
 -- two lists that do not
 differs : (x : Term) (xs : List Term) (y : Term) (ys : List Term) (c d : Command) → (c ≡ d → ⊥) → Some c ≡ first_of (x ∷ xs) → Some d ≡ first_of (y ∷ ys)
@@ -84,7 +73,7 @@ differs (pair s t) xs (atom b) ys c d apart e f = refl
 
 pub first_terms : {s : Term} {ss : List Term} {t : Term} {ts : List Term} {One Other : List Term → Type 0} → One (s ∷ ss) → Other (t ∷ ts) → Comparing s ss t ts One Other 1
 first_terms {s} {ss} {t} {ts} a b =
-    record { left = s ∷ []; right = t ∷ []; lefts = refl; rights = refl; one = a; other = b; as_first = and_true (same s t) }
+    record { left = s ∷ []; right = t ∷ []; lefts = refl; rights = refl; one = a; other = b; as_first = sym (and-true (same s t)) }
 
 module _ {s : Term} {ss : List Term} {t : Term} {ts : List Term} {One Other : List Term → Type 0} {due : ℕ} (k : Comparing s ss t ts One Other due) where
   -- nothing is due any more
@@ -97,34 +86,20 @@ module _ {s : Term} {ss : List Term} {t : Term} {ts : List Term} {One Other : Li
       by (x ∷ xs) right m n a b e = absurd (omega arith)
 
   module _ (some : 0 < due) where
-    -- there is a command on either side
-    pub one_more : {Later : List Term → Type 0} → ((p : List Term) → One p → Took Later p None) → ⊥
-    one_more {Later} took = by k.left k.lefts k.one
-      where
-        by : (left : List Term) → length left ≡ due → One (left ++ ss) → ⊥
-        by [] m a = omega arith
-        by (x ∷ xs) m a = let e : None ≡ first_of (x ∷ xs) = (took (x ∷ (xs ++ ss)) a).first ∙ sym (first_append x xs ss) in ends x e
-          where
-            ends : (x : Term) → None ≡ first_of (x ∷ xs) → ⊥
-            ends (var a) e = let z : ◌≡◌ {A = ℕ} 0 1 = cc in omega arith
-            ends (atom a) e = let z : ◌≡◌ {A = ℕ} 0 1 = cc in omega arith
-            ends (pair u w) e = let z : ◌≡◌ {A = ℕ} 0 1 = cc in omega arith
+    there : (Has : List Term → Type 0) (others us : List Term) → length us ≡ due → Has (us ++ others) → (t : Term) × (ts : List Term) × Has (t ∷ ts)
+    there Has others [] n h = absurd (omega arith)
+    there Has others (u ∷ us) n h = (u, us ++ others, h)
 
-    pub other_more : {Later : List Term → Type 0} → ((p : List Term) → Other p → Took Later p None) → ⊥
-    other_more {Later} took = by k.right k.rights k.other
-      where
-        by : (right : List Term) → length right ≡ due → Other (right ++ ts) → ⊥
-        by [] m a = omega arith
-        by (x ∷ xs) m a = let e : None ≡ first_of (x ∷ xs) = (took (x ∷ (xs ++ ts)) a).first ∙ sym (first_append x xs ts) in ends x e
-          where
-            ends : (x : Term) → None ≡ first_of (x ∷ xs) → ⊥
-            ends (var a) e = let z : ◌≡◌ {A = ℕ} 0 1 = cc in omega arith
-            ends (atom a) e = let z : ◌≡◌ {A = ℕ} 0 1 = cc in omega arith
-            ends (pair u w) e = let z : ◌≡◌ {A = ℕ} 0 1 = cc in omega arith
+    -- a term is to come on either side
+    pub one_there : (t : Term) × (ts : List Term) × One (t ∷ ts)
+    one_there = there One ss k.left k.lefts k.one
+
+    pub other_there : (t : Term) × (ts : List Term) × Other (t ∷ ts)
+    other_there = there Other ts k.right k.rights k.other
 
     module _ {One2 Other2 : List Term → Type 0} where
       -- two commands that differ
-      pub found_other : (c d : Command) → ((p : List Term) → One p → Took One2 p (Some c)) → ((p : List Term) → Other p → Took Other2 p (Some d)) → (c ≡ d → ⊥)
+      pub found_other : (c d : Command) → ((p : List Term) → One p → Took One2 p c) → ((p : List Term) → Other p → Took Other2 p d) → (c ≡ d → ⊥)
           → Compared s ss t ts One2 Other2 false
       found_other c d took1 took2 apart = by k.left k.right k.lefts k.rights k.one k.other k.as_first
         where
@@ -136,12 +111,12 @@ module _ {s : Term} {ss : List Term} {t : Term} {ts : List Term} {One Other : Li
               e ∙ differs x xs y ys c d apart ((took1 (x ∷ (xs ++ ss)) a).first ∙ sym (first_append x xs ss)) ((took2 (y ∷ (ys ++ ts)) b).first ∙ sym (first_append y ys ts)) in
               record {
                 value = sym is;
-                one = λ q. (let z : ◌≡◌ {A = ℕ} 0 1 = cc in absurd (omega arith));
-                other = λ q. (let z : ◌≡◌ {A = ℕ} 0 1 = cc in absurd (omega arith));
+                one = λ q. (absurd cc);
+                other = λ q. (absurd cc);
               }
 
       -- the same command on both sides
-      pub goes_on : (c : Command) → ((p : List Term) → One p → Took One2 p (Some c)) → ((p : List Term) → Other p → Took Other2 p (Some c))
+      pub goes_on : (c : Command) → ((p : List Term) → One p → Took One2 p c) → ((p : List Term) → Other p → Took Other2 p c)
           → Comparing s ss t ts One2 Other2 (due_after (due - 1) c)
       goes_on c took1 took2 = by k.left k.right k.lefts k.rights k.one k.other k.as_first
         where

@@ -1,16 +1,18 @@
 -- A cursor from one command to the next. Assumes nothing.
-use Rattle.std.proofs.Common.{◌≡◌, ℕ, suc, ◌+◌, ◌-◌, ◌*◌, ◌<◌, ◌≤◌, List, [], ◌∷◌, ◌++◌, map, length, get_or, drop, Some, None, Option, sym, refl, ap, ◌∙◌, subst, append_assoc, mul-le-mul_right, arith, length-append, length-drop}
+use Rattle.std.proofs.Common.{◌≡◌, ℕ, ◌+◌, ◌<◌, ◌≤◌, List, [], ◌∷◌, ◌++◌, map, length, get_or, drop, Some, None, Option, sym, refl, ap, ◌∙◌, subst, append_assoc, arith, length-append, length-drop}
 use lib.ListN.{length-map}
-use Rattle.terms.specs.declared.Form.TheVariants.{Rules, Slips}
+use Rattle.terms.specs.declared.Form.TheVariants.{Rules}
 use Rattle.terms.specs.Terms.{Term, var, atom, pair}
 use Rattle.terms.specs.Bytes.{two, encoding, encodings, AllFit}
 use Rattle.grammar.specs.declared.commands.Command.{Command}
 use Rattle.grammar.specs.declared.commands.Command.TheVariants.{Atom, Var, Pair}
+use Rattle.reading.specs.Taking.{size}
 use Rattle.resolution.specs.Cells.{cell, present}
 use Rattle.slips.proofs.Written.{ahead}
 use Rattle.comparing.specs.Streams.{first_of, after_first, text_first}
-use Rattle.comparing.specs.Cursors.{Stands, Means, Went, Took, weight, Nearer}
-use Rattle.comparing.proofs.Fronts.{few, text_front}
+use Rattle.comparing.specs.declared.Inside.{Inside}
+use Rattle.comparing.specs.Cursors.{DueAt, Due, Means, Went, Took}
+use Rattle.comparing.proofs.Fronts.{few, text_front, text_inside}
 
 pub first_append : (u : Term) (us xs : List Term) → first_of (u ∷ us) ≡ first_of ((u ∷ us) ++ xs)
 first_append (var x) us xs = refl
@@ -22,20 +24,25 @@ after_append (var x) us xs = refl
 after_append (atom a) us xs = refl
 after_append (pair s t) us xs = refl
 
-pub nothing_here : (slip : List ℕ) (p : ℕ) → Stands slip p []
-nothing_here slip p = record { rest = drop p slip; is = refl }
+size_few : (c : Command) → size Rules c ≤ 3
+size_few (Var x) = omega arith
+size_few (Atom a) = omega arith
+size_few Pair = omega arith
 
-module _ {slip table : List ℕ} {used : ℕ} {text : List ℕ} {first place inner due : ℕ} {pending : List Term} (m : Means slip table used text first place inner due pending) where
+module _ {slip table text : List ℕ} {first place : ℕ} {pending : List Term} where
+  -- terms are due where a cursor is inside one
+  pub due_there : {o : Option Inside} {i : Inside} → o ≡ Some i → Means slip table text first place o pending → (ts : List Term) × DueAt slip i ts
+  due_there e m = (m.due, subst (λ x. Due slip x m.due) e m.in_slip)
+
   -- inside a term of the slip
-  pub took_inside : (inner2 due2 : ℕ) (c : Option Command) → 0 < due
-      → ((ts : List Term) → Stands slip inner ts → length ts ≡ due → Went slip inner2 due2 ts c)
-      → Took (Means slip table used text first place inner2 due2) pending c
-  took_inside inner2 due2 c some went = by m.inside m.in_slip m.counted m.is
+  pub took_inside : {o : Option Inside} {i : Inside} → o ≡ Some i → Means slip table text first place o pending → (c : Command) (o2 : Option Inside) → ((ts : List Term) → DueAt slip i ts → Went slip c o2 ts)
+      → Took (Means slip table text first place o2) pending c
+  took_inside {o} {i} e m c o2 went = by m.due (subst (λ x. Due slip x m.due) e m.in_slip) m.is
     where
-      by : (us : List Term) → Stands slip inner us → length us ≡ due → pending ≡ us ++ map (present m.terms) m.own → Took (Means slip table used text first place inner2 due2) pending c
-      by [] s n e = absurd (omega arith)
-      by (u ∷ us) s n e =
-          let w = went (u ∷ us) s n in
+      by : (us : List Term) → DueAt slip i us → pending ≡ us ++ map (present m.terms) m.own → Took (Means slip table text first place o2) pending c
+      by [] s e = let n = s.counted in let l = s.some in absurd (omega arith)
+      by (u ∷ us) s e =
+          let w = went (u ∷ us) s in
           let xs = map (present m.terms) m.own in
           record {
             first = w.first ∙ first_append u us xs ∙ ap first_of (sym e);
@@ -46,128 +53,101 @@ module _ {slip table : List ℕ} {used : ℕ} {text : List ℕ} {first place inn
                   own = m.own;
                   in_text = m.in_text;
                   declared = m.declared;
-                  inside = after_first (u ∷ us);
-                  in_slip = w.left;
-                  counted = w.counted;
+                  short = m.short;
+                  due = after_first (u ∷ us);
+                  in_slip = w.later;
                   is = ap after_first e ∙ after_append u us xs;
                 };
           }
 
   -- between the terms of the slip: what is to come is what the text has
-  module _ (none : due ≡ 0) where
-    no_inside : (us : List Term) → length us ≡ due → us ≡ []
-    no_inside [] n = refl
-    no_inside (u ∷ us) n = absurd (omega arith)
-
-    from_text : pending ≡ map (present m.terms) m.own
-    from_text = m.is ∙ ap (λ us. us ++ map (present m.terms) m.own) (no_inside m.inside m.counted)
+  module _ {o : Option Inside} (none : o ≡ None) (m : Means slip table text first place o pending) where
+    pub from_text : pending ≡ map (present m.terms) m.own
+    from_text = m.is ∙ ap (λ us. us ++ map (present m.terms) m.own) (subst (λ x. Due slip x m.due) none m.in_slip)
 
     now_at : (place2 : ℕ) (own2 : List Term) → drop place2 text ≡ encodings Rules own2 → AllFit (length m.terms) own2
-        → Means slip table used text first place2 inner 0 (map (present m.terms) own2)
+        → Means slip table text first place2 None (map (present m.terms) own2)
     now_at place2 own2 d f =
-        record { terms = m.terms; listed = m.listed; own = own2; in_text = d; declared = f; inside = []; in_slip = nothing_here slip inner; counted = refl; is = refl }
+        record { terms = m.terms; listed = m.listed; own = own2; in_text = d; declared = f; short = m.short; due = []; in_slip = refl; is = refl }
 
-    pub took_end : None ≡ text_first text place → Took (Means slip table used text first place inner due) pending None
-    took_end e = by m.own refl (e ∙ text_front text place m.own m.in_text)
+    -- a command stands in the text where a term is to come
+    pub stands_there : (t : Term) (ts : List Term) → pending ≡ t ∷ ts → (c : Command) × (text_first text place ≡ Some c)
+    stands_there t ts e = by m.own (sym from_text ∙ e) (text_front text place m.own m.in_text)
       where
-        by : (own : List Term) → m.own ≡ own → None ≡ first_of own → Took (Means slip table used text first place inner due) pending None
-        by [] q h =
-            let is : pending ≡ [] = from_text ∙ ap (map (present m.terms)) q in
-            record { first = ap first_of (sym is); later = subst (Means slip table used text first place inner due) (is ∙ sym (ap after_first is)) m }
-        by (var x ∷ ts) q h = let z : ◌≡◌ {A = ℕ} 0 1 = cc in absurd (omega arith)
-        by (atom a ∷ ts) q h = let z : ◌≡◌ {A = ℕ} 0 1 = cc in absurd (omega arith)
-        by (pair s t ∷ ts) q h = let z : ◌≡◌ {A = ℕ} 0 1 = cc in absurd (omega arith)
+        by : (own : List Term) → map (present m.terms) own ≡ t ∷ ts → text_first text place ≡ first_of own → (c : Command) × (text_first text place ≡ Some c)
+        by [] q h = absurd cc
+        by (var x ∷ us) q h = (Var x, h)
+        by (atom a ∷ us) q h = (Atom a, h)
+        by (pair u w ∷ us) q h = (Pair, h)
 
-    pub took_atom : (a : ℕ) → Some (Atom a) ≡ text_first text place → Took (Means slip table used text first (place + 3) inner due) pending (Some (Atom a))
-    took_atom a e = by m.own m.in_text m.declared from_text (e ∙ text_front text place m.own m.in_text)
-      where
-        by : (own : List Term) → drop place text ≡ encodings Rules own → AllFit (length m.terms) own → pending ≡ map (present m.terms) own → Some (Atom a) ≡ first_of own
-            → Took (Means slip table used text first (place + 3) inner due) pending (Some (Atom a))
-        by [] d f q h = let z : ◌≡◌ {A = ℕ} 0 1 = cc in absurd (omega arith)
-        by (var x ∷ ts) d f q h = let z : ◌≡◌ {A = ℕ} 0 1 = cc in absurd (omega arith)
-        by (atom b ∷ ts) d f q h =
-            record {
-              first = h ∙ ap first_of (sym q);
-              later =
-                  subst (λ n. Means slip table used text first (place + 3) inner n (after_first pending)) (sym none)
-                  (subst (Means slip table used text first (place + 3) inner 0) (sym (ap after_first q)) (now_at (place + 3) ts (ahead place text (0x01 ∷ two b) (encodings Rules ts) d) f.1));
-            }
-        by (pair s t ∷ ts) d f q h = let z : ◌≡◌ {A = ℕ} 0 1 = cc in absurd (omega arith)
+    module _ (c : Command) (e : Some c ≡ text_first text place) (n : ℕ) (long : n ≡ size Rules c) where
+      -- the place behind it
+      pub onward : (place < place + n) × (place + n < 65536)
+      onward = let l = text_inside text place c e in let s = m.short in let k = size_few c in (omega arith, omega arith)
 
-    pub took_pair : Some Pair ≡ text_first text place → Took (Means slip table used text first (place + 1) inner due) pending (Some Pair)
-    took_pair e = by m.own m.in_text m.declared from_text (e ∙ text_front text place m.own m.in_text)
-      where
-        by : (own : List Term) → drop place text ≡ encodings Rules own → AllFit (length m.terms) own → pending ≡ map (present m.terms) own → Some Pair ≡ first_of own
-            → Took (Means slip table used text first (place + 1) inner due) pending (Some Pair)
-        by [] d f q h = let z : ◌≡◌ {A = ℕ} 0 1 = cc in absurd (omega arith)
-        by (var x ∷ ts) d f q h = let z : ◌≡◌ {A = ℕ} 0 1 = cc in absurd (omega arith)
-        by (atom b ∷ ts) d f q h = let z : ◌≡◌ {A = ℕ} 0 1 = cc in absurd (omega arith)
-        by (pair s t ∷ ts) d f q h =
-            record {
-              first = h ∙ ap first_of (sym q);
-              later =
-                  subst (λ n. Means slip table used text first (place + 1) inner n (after_first pending)) (sym none)
-                  (subst (Means slip table used text first (place + 1) inner 0) (sym (ap after_first q))
-                  (now_at (place + 1) (s ∷ t ∷ ts)
-                  (ahead place text (0x03 ∷ []) ((encoding Rules s ++ encoding Rules t) ++ encodings Rules ts) d ∙ append_assoc (encoding Rules s) (encoding Rules t) (encodings Rules ts))
-                  (f.0.0, (f.0.1, f.1))));
-            }
+      -- an atom or a pair is taken
+      pub took_text : ((x : ℕ) → c ≡ Var x → ⊥) → Took (Means slip table text first (place + n) o) pending c
+      took_text other =
+          subst (λ x. Took (Means slip table text first (place + n) x) pending c) (sym none)
+          (subst (λ k. Took (Means slip table text first (place + k) None) pending c) (sym long)
+          (by c m.own other m.in_text m.declared from_text (e ∙ text_front text place m.own m.in_text)))
+        where
+          by : (c : Command) (own : List Term) → ((x : ℕ) → c ≡ Var x → ⊥) → drop place text ≡ encodings Rules own → AllFit (length m.terms) own → pending ≡ map (present m.terms) own → Some c ≡ first_of own
+              → Took (Means slip table text first (place + size Rules c) None) pending c
+          by c [] o d f q h = absurd cc
+          by (Var y) own o d f q h = absurd (o y refl)
+          by Pair (var x ∷ ts) o d f q h = absurd cc
+          by (Atom a) (var x ∷ ts) o d f q h = absurd cc
+          by Pair (atom b ∷ ts) o d f q h = absurd cc
+          by (Atom a) (pair s t ∷ ts) o d f q h = absurd cc
+          by (Atom a) (atom b ∷ ts) o d f q h =
+              record {
+                first = h ∙ ap first_of (sym q);
+                later = subst (Means slip table text first (place + 3) None) (sym (ap after_first q)) (now_at (place + 3) ts (ahead place text (0x01 ∷ two b) (encodings Rules ts) d) f.1);
+              }
+          by Pair (pair s t ∷ ts) o d f q h =
+              record {
+                first = h ∙ ap first_of (sym q);
+                later =
+                    subst (Means slip table text first (place + 1) None) (sym (ap after_first q))
+                    (now_at (place + 1) (s ∷ t ∷ ts)
+                    (ahead place text (0x03 ∷ []) ((encoding Rules s ++ encoding Rules t) ++ encodings Rules ts) d ∙ append_assoc (encoding Rules s) (encoding Rules t) (encodings Rules ts))
+                    (f.0.0, (f.0.1, f.1)));
+              }
 
-    -- at a variable the cursor goes into its term
-    pub record Enters (k : ℕ) : Type 0 where
-      pub low : first + k < used
-      pub into : Means slip table used text first (place + 2) (get_or table (first + k) 0) 1 pending
-      pub inside : get_or table (first + k) 0 < length slip
+      -- at a variable the cursor goes into its term
+      pub record Enters (k : ℕ) : Type 0 where
+        pub low : first + k < length table
+        pub into : Means slip table text first (place + n) (Some (record { place = get_or table (first + k) 0; due = 1 })) pending
 
-    pub enters : (k : ℕ) → Some (Var k) ≡ text_first text place → Enters k
-    enters k e = by m.own m.in_text m.declared from_text (e ∙ text_front text place m.own m.in_text)
-      where
-        by : (own : List Term) → drop place text ≡ encodings Rules own → AllFit (length m.terms) own → pending ≡ map (present m.terms) own → Some (Var k) ≡ first_of own → Enters k
-        by [] d f q h = let z : ◌≡◌ {A = ℕ} 0 1 = cc in absurd (omega arith)
-        by (var x ∷ ts) d f q h =
-            let same : x ≡ k = cc in
-            let low : k < length m.terms = omega (arith, f.0) in
-            let stand = m.listed.stand k low in
-            record {
-              low = omega (arith, m.listed.within);
-              into =
-                  record {
-                    terms = m.terms;
-                    listed = m.listed;
-                    own = ts;
-                    in_text = ahead place text (0x02 ∷ x ∷ []) (encodings Rules ts) d;
-                    declared = f.1;
-                    inside = cell m.terms k ∷ [];
-                    in_slip = stand;
-                    counted = refl;
-                    is = q ∙ ap (λ y. cell m.terms y ∷ map (present m.terms) ts) same;
-                  };
-              inside = omega (arith, some_byte (cell m.terms k) stand.rest, ap length stand.is, length-drop (get_or table (first + k) 0) slip);
-            }
-          where
-            some_byte : (t : Term) (rest : List ℕ) → 0 < length (encodings Slips (t ∷ []) ++ rest)
-            some_byte (var y) rest = omega arith
-            some_byte (atom b) rest = omega arith
-            some_byte (pair u w) rest = omega arith
-        by (atom b ∷ ts) d f q h = let z : ◌≡◌ {A = ℕ} 0 1 = cc in absurd (omega arith)
-        by (pair s t ∷ ts) d f q h = let z : ◌≡◌ {A = ℕ} 0 1 = cc in absurd (omega arith)
+      pub enters : (k : ℕ) → c ≡ Var k → Enters k
+      enters k v = by m.own m.in_text m.declared from_text (ap Some (sym v) ∙ e ∙ text_front text place m.own m.in_text)
+        where
+          behind : place + 2 ≡ place + n
+          behind = ap (λ i. place + i) (sym (long ∙ ap (size Rules) v))
 
--- ── the measure ──
-
--- farther in the text, wherever in the slip
-pub text_nearer : (slip : List ℕ) (place place2 inner inner2 : ℕ) → place < place2 → place2 ≤ 65536 → weight slip place2 inner2 < weight slip place inner
-text_nearer slip place place2 inner inner2 l m =
-    let n = length slip in
-    let k : (suc (65536 - place2)) * suc n ≤ (65536 - place) * suc n = mul-le-mul_right (suc n) (omega arith) in
-    omega (arith, k)
-
--- farther in the slip
-pub slip_nearer : (slip : List ℕ) (place inner inner2 : ℕ) → inner < inner2 → inner < length slip → weight slip place inner2 < weight slip place inner
-slip_nearer slip place inner inner2 l m = omega arith
-
-pub nearer : (c : Option Command) (was is : ℕ) → is < was → Nearer c was is
-nearer None was is l = tt
-nearer (Some c) was is l = l
+          by : (own : List Term) → drop place text ≡ encodings Rules own → AllFit (length m.terms) own → pending ≡ map (present m.terms) own → Some (Var k) ≡ first_of own → Enters k
+          by [] d f q h = absurd cc
+          by (var x ∷ ts) d f q h =
+              let same : x ≡ k = cc in
+              let low : k < length m.terms = omega (arith, f.0) in
+              record {
+                low = omega (arith, m.listed.within);
+                into =
+                    record {
+                      terms = m.terms;
+                      listed = m.listed;
+                      own = ts;
+                      in_text = ap (λ p. drop p text) (sym behind) ∙ ahead place text (0x02 ∷ x ∷ []) (encodings Rules ts) d;
+                      declared = f.1;
+                      short = m.short;
+                      due = cell m.terms k ∷ [];
+                      in_slip = record { some = omega arith; stand = m.listed.stand k low; counted = refl };
+                      is = q ∙ ap (λ y. cell m.terms y ∷ map (present m.terms) ts) same;
+                    };
+              }
+          by (atom b ∷ ts) d f q h = absurd cc
+          by (pair s t ∷ ts) d f q h = absurd cc
 
 -- ── how much is to come ──
 
@@ -177,11 +157,15 @@ text_few (var x ∷ ts) = omega (arith, text_few ts)
 text_few (atom a ∷ ts) = omega (arith, text_few ts)
 text_few (pair s t ∷ ts) = omega (arith, text_few ts, length-append (encoding Rules s ++ encoding Rules t) (encodings Rules ts))
 
-pub few_come : {slip table : List ℕ} {used : ℕ} {text : List ℕ} {first place inner due : ℕ} {pending : List Term} → Means slip table used text first place inner due pending
-    → length pending ≤ length slip + length text
-few_come {slip} {table} {used} {text} {first} {place} {inner} m =
-    let a = few slip inner m.inside m.in_slip in
+pub few_come : {slip table text : List ℕ} {first place : ℕ} {inside : Option Inside} {pending : List Term} → Means slip table text first place inside pending → length pending ≤ length slip + 517
+few_come {slip} {table} {text} {first} {place} {inside} {pending} m =
+    let a = due_few inside m.due m.in_slip in
     let b = text_few m.own in
     let d = ap length m.in_text in
     let e = ap length m.is in
-    omega (arith, length-append m.inside (map (present m.terms) m.own), length-map m.own (present m.terms), length-drop place text)
+    let l = m.short in
+    omega (arith, length-append m.due (map (present m.terms) m.own), length-map m.own (present m.terms), length-drop place text)
+  where
+    due_few : (o : Option Inside) (ts : List Term) → Due slip o ts → length ts ≤ length slip
+    due_few None ts e = omega (arith, ap length e)
+    due_few (Some i) ts k = omega (arith, few slip i.place ts k.stand)

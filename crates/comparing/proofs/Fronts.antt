@@ -1,5 +1,7 @@
 -- The first command of terms, in a slip and in a text. Assumes nothing.
-use Rattle.std.proofs.Common.{◌≡◌, ℕ, ◌+◌, ◌-◌, ◌*◌, ◌/◌, ◌%◌, ◌<◌, ◌≤◌, Bool, true, false, cond, ltb, List, [], ◌∷◌, ◌++◌, length, get_or, drop, Some, None, Ok, Option, sym, refl, ap, ◌∙◌, subst, append_assoc, add-zero, arith, length-append, length-drop}
+use Rattle.std.proofs.Common.{◌≡◌, ℕ, zero, suc, ◌+◌, ◌-◌, ◌/◌, ◌%◌, ◌<◌, ◌≤◌, Bool, true, false, cond, ltb, List, [], ◌∷◌, ◌++◌, length, get_or, drop, Some, None, Ok, Option, sym, refl, ap, ◌∙◌, subst, append_assoc, add-zero, arith, length-append, length-drop}
+use Rattle.std.specs.Bool.{then_some}
+use Rattle.std.proofs.lemmas.Nat.{div-add-mod'}
 use Rattle.std.proofs.lemmas.List.{get_or-drop}
 use Rattle.std.proofs.lemmas.Bool.{ltb-true, lt-ltb, le-ltb}
 use Rattle.terms.specs.declared.Form.TheVariants.{Rules, Slips}
@@ -11,10 +13,8 @@ use Rattle.reading.specs.Taking.{first_command, size}
 use Rattle.stores.specs.Answers.{byte_at}
 use Rattle.slips.proofs.Written.{ahead}
 use Rattle.comparing.specs.Streams.{first_of, after_first, due_after, text_first}
-use Rattle.comparing.specs.Cursors.{Stands, Went}
-
-whole : (n : ℕ) → n / 256 * 256 + n % 256 ≡ n
-whole n = omega arith
+use Rattle.comparing.specs.declared.Inside.{Inside}
+use Rattle.comparing.specs.Cursors.{Stands, DueAt, Due, Went}
 
 -- ── in a slip ──
 
@@ -31,7 +31,7 @@ pub front : (slip : List ℕ) (p : ℕ) (u : Term) (us : List Term) → Stands s
 front slip p (var x) us s =
     record {
       command = Var x;
-      read = ap (first_command Slips p) s.is ∙ ap (λ n. Ok (Some (Var n))) (whole x);
+      read = ap (first_command Slips p) s.is ∙ ap (λ n. Ok (Some (Var n))) (div-add-mod' x 256);
       first = refl;
       left = record { rest = s.rest; is = ahead p slip (0x04 ∷ two x) (encodings Slips us ++ s.rest) s.is };
       counted = omega arith;
@@ -40,7 +40,7 @@ front slip p (var x) us s =
 front slip p (atom a) us s =
     record {
       command = Atom a;
-      read = ap (first_command Slips p) s.is ∙ ap (λ n. Ok (Some (Atom n))) (whole a);
+      read = ap (first_command Slips p) s.is ∙ ap (λ n. Ok (Some (Atom n))) (div-add-mod' a 256);
       first = refl;
       left = record { rest = s.rest; is = ahead p slip (0x01 ∷ two a) (encodings Slips us ++ s.rest) s.is };
       counted = omega arith;
@@ -73,30 +73,39 @@ encoded_long (pair s t ∷ ts) = omega (arith, encoded_long ts, length-append (e
 pub few : (slip : List ℕ) (p : ℕ) (ts : List Term) → Stands slip p ts → length ts ≤ length slip - p
 few slip p ts s = omega (arith, ap length s.is, length-drop p slip, length-append (encodings Slips ts) s.rest, encoded_long ts)
 
-module _ (slip : List ℕ) (p due : ℕ) (some : 0 < due) where
-  at_front : (ts : List Term) → Stands slip p ts → length ts ≡ due → Front slip p ts
-  at_front [] s n = absurd (omega arith)
-  at_front (u ∷ us) s n = front slip p u us s
+module _ (slip : List ℕ) (i : Inside) where
+  at_front : (ts : List Term) → DueAt slip i ts → Front slip i.place ts
+  at_front [] s = let n = s.counted in let l = s.some in absurd (omega arith)
+  at_front (u ∷ us) s = front slip i.place u us s.stand
 
   -- where terms are due, a command can be read
-  pub front_there : ((ts : List Term) × Stands slip p ts × (length ts ≡ due)) → (c : Command) × (first_command Slips p (drop p slip) ≡ Ok (Some c)) × (p < length slip)
+  pub front_there : ((ts : List Term) × DueAt slip i ts) → (c : Command) × (first_command Slips i.place (drop i.place slip) ≡ Ok (Some c)) × (i.place + i.due ≤ length slip)
   front_there x =
-      let k = few slip p x.0 x.1 in
-      let f = at_front x.0 x.1 x.2 in
-      (f.command, f.read, omega (arith, k, x.2))
+      let k = few slip i.place x.0 x.1.stand in
+      let f = at_front x.0 x.1 in
+      let n = x.1.counted in
+      let l = x.1.some in
+      (f.command, f.read, omega arith)
 
-  -- and behind it the others stand
-  pub went_on : (c : Command) (q due2 : ℕ) → Ok (Some c) ≡ first_command Slips p (drop p slip) → q ≡ p + size Slips c → due2 ≡ due_after (due - 1) c
-      → (ts : List Term) → Stands slip p ts → length ts ≡ due → Went slip q due2 ts (Some c)
-  went_on c q due2 e place d ts s n =
-      let f = at_front ts s n in
+  -- and behind it the others stand, if any are due
+  pub went_on : (c : Command) (q : ℕ) → Ok (Some c) ≡ first_command Slips i.place (drop i.place slip) → q ≡ i.place + size Slips c
+      → (ts : List Term) → DueAt slip i ts → Went slip c (then_some (ltb 0 (due_after (i.due - 1) c)) (record { place = q; due = due_after (i.due - 1) c })) ts
+  went_on c q e place ts s =
+      let f = at_front ts s in
       let r = f.read in
       let same : f.command ≡ c = cc in
       record {
         first = ap Some (sym same) ∙ f.first;
-        left = subst (λ m. Stands slip m (after_first ts)) (ap (λ x. p + size Slips x) same ∙ sym place) f.left;
-        counted = f.counted ∙ ap (λ m. due_after (m - 1) f.command) n ∙ ap (due_after (due - 1)) same ∙ sym d;
+        later =
+            due_left (due_after (i.due - 1) c) (after_first ts)
+            (subst (λ m. Stands slip m (after_first ts)) (ap (λ x. i.place + size Slips x) same ∙ sym place) f.left)
+            (f.counted ∙ ap (λ m. due_after (m - 1) f.command) s.counted ∙ ap (due_after (i.due - 1)) same);
       }
+    where
+      due_left : (n : ℕ) (us : List Term) → Stands slip q us → length us ≡ n → Due slip (then_some (ltb 0 n) (record { place = q; due = n })) us
+      due_left zero [] t k = refl
+      due_left zero (u ∷ us) t k = absurd (omega arith)
+      due_left (suc n) us t k = subst (λ b. Due slip (then_some b (record { place = q; due = suc n })) us) (sym (lt-ltb 0 (suc n) (omega arith))) (record { some = omega arith; stand = t; counted = k })
 
 -- ── in a text ──
 
@@ -121,7 +130,7 @@ text_front t p (atom a ∷ ts) d =
     let b1 : byte_at p t ≡ Some 0x01 = byte_front t p 0x01 (two a ++ encodings Rules ts) d in
     let b2 : byte_at (p + 1) t ≡ Some (a / 256) = byte_front t (p + 1) (a / 256) (a % 256 ∷ encodings Rules ts) (ahead p t (0x01 ∷ []) (two a ++ encodings Rules ts) d) in
     let b3 : byte_at (p + 2) t ≡ Some (a % 256) = byte_front t (p + 2) (a % 256) (encodings Rules ts) (ahead p t (0x01 ∷ a / 256 ∷ []) (a % 256 ∷ encodings Rules ts) d) in
-    rw (b1, b2, b3) (ap (λ n. Some (Atom n)) (whole a))
+    rw (b1, b2, b3) (ap (λ n. Some (Atom n)) (div-add-mod' a 256))
 text_front t p (pair s u ∷ ts) d =
     let b1 : byte_at p t ≡ Some 0x03 = byte_front t p 0x03 ((encoding Rules s ++ encoding Rules u) ++ encodings Rules ts) d in
     rw b1 refl
@@ -131,7 +140,7 @@ byte_inside t p b e = by (ltb p (length t)) refl e
   where
     by : (c : Bool) → ltb p (length t) ≡ c → Some b ≡ cond c (Some (get_or t p 0)) None → p < length t
     by true q h = ltb-true p (length t) q
-    by false q h = let z : ◌≡◌ {A = ℕ} 0 1 = cc in absurd (omega arith)
+    by false q h = absurd cc
 
 pub text_inside : (t : List ℕ) (p : ℕ) (c : Command) → Some c ≡ text_first t p → p < length t
 text_inside t p c e = by (byte_at p t) refl
@@ -140,4 +149,4 @@ text_inside t p c e = by (byte_at p t) refl
     by (Some b) q = byte_inside t p b (sym q)
     by None q =
         let none : text_first t p ≡ None = (rw q refl) in
-        let z : ◌≡◌ {A = ℕ} 0 1 = cc in absurd (omega arith)
+        absurd cc

@@ -1,8 +1,9 @@
 -- The rules of a store as texts. Assumes nothing.
-use Rattle.std.proofs.Common.{◌≡◌, ℕ, ◌<◌, ◌≤◌, Bool, true, false, cond, ◌&&◌, eqb, ltb, ◌⊎◌, List, [], ◌∷◌, ◌++◌, map, length, get_or, drop, Some, None, sym, refl, ap, ◌∙◌, subst, inl, inr, arith}
+use Rattle.std.proofs.Common.{◌≡◌, ℕ, ◌<◌, ◌≤◌, Bool, true, false, cond, ◌&&◌, eqb, ltb, ◌⊎◌, List, [], ◌∷◌, ◌++◌, map, length, get_or, drop, Some, sym, refl, ap, ◌∙◌, subst, inl, inr, arith}
 use lib.ListN.{length-map}
 use Rattle.std.proofs.lemmas.List.{get_or-map}
-use Rattle.std.proofs.lemmas.Bool.{eqb-true, lt-ltb, le-ltb, cases_lt}
+use Rattle.std.proofs.lemmas.Bool.{eqb-true, eq-eqb, ne_eqb, lt-ltb, le-ltb, cases_lt}
+use Rattle.std.specs.Option.{option_eq}
 use Rattle.terms.specs.declared.Form.TheVariants.{Rules}
 use Rattle.terms.specs.Terms.{Term}
 use Rattle.terms.specs.Bytes.{two, encodings, AllFit}
@@ -18,10 +19,10 @@ use Rattle.slips.specs.Checker.{has_rule}
 use Rattle.slips.specs.Opening.{rule_or_none, rules_in}
 use Rattle.comparing.specs.declared.Source.{Source}
 use Rattle.comparing.specs.declared.Source.TheVariants.{Query as OfQuery, Rule as OfRule}
-use Rattle.comparing.specs.Cursors.{Listed, Means}
-use Rattle.comparing.specs.Texts.{text_in}
+use Rattle.comparing.specs.Cursors.{Listed}
+use Rattle.comparing.specs.Texts.{Sources, text_of, Comes}
+use Rattle.comparing.specs.Stages.{head_at}
 use Rattle.comparing.proofs.Fronts.{byte_front}
-use Rattle.comparing.proofs.Cursors.{nothing_here}
 
 -- the bytes of a rule that is there
 record RuleText (ts : List (List ℕ)) (i : ℕ) : Type 0 where
@@ -64,72 +65,66 @@ module _ (ts : List (List ℕ)) (fit : all_fit ts ≡ true) where
           ∙ ap (λ t. t && eqb v (rule (rules_in ts) i).variables) b
       by (inr m) = ap (λ t. t && (ltb i no_number && eqb v (rule (rules_in ts) i).variables)) (le-ltb i (length (rules_in ts)) (omega (arith, counted)))
 
-  -- what that byte tells
-  pub has_none : (i v : ℕ) → None ≡ byte_of ts i 1 → false ≡ has_rule (rules_in ts) i v
-  has_none i v e = by (cases_lt i (count_of ts))
+  eqb-sym : (a b : ℕ) → eqb a b ≡ eqb b a
+  eqb-sym a b = by (eqb a b) refl
     where
-      by : (i < count_of ts) ⊎ (count_of ts ≤ i) → false ≡ has_rule (rules_in ts) i v
-      by (inl l) = let f = variables_byte i l in let z : ◌≡◌ {A = ℕ} 0 1 = cc in absurd (omega arith)
-      by (inr l) = sym (nowhere i v l)
+      by : (t : Bool) → eqb a b ≡ t → eqb a b ≡ eqb b a
+      by true q = q ∙ sym (eq-eqb b a (sym (eqb-true a b q)))
+      by false q = q ∙ sym (ne_eqb b a (λ e. (let h = eq-eqb a b (sym e) in cc)))
 
-  pub has_some : (i v d : ℕ) → Some d ≡ byte_of ts i 1 → eqb v d ≡ has_rule (rules_in ts) i v
-  has_some i v d e = by (cases_lt i (count_of ts))
+  -- what that byte tells
+  pub has_byte : (i v : ℕ) → option_eq eqb (byte_of ts i 1) (Some v) ≡ has_rule (rules_in ts) i v
+  has_byte i v = by (cases_lt i (count_of ts))
     where
-      by : (i < count_of ts) ⊎ (count_of ts ≤ i) → eqb v d ≡ has_rule (rules_in ts) i v
+      by : (i < count_of ts) ⊎ (count_of ts ≤ i) → option_eq eqb (byte_of ts i 1) (Some v) ≡ has_rule (rules_in ts) i v
       by (inl l) =
-          let f = variables_byte i l in
-          let same : d ≡ (rule (rules_in ts) i).variables = cc in
-          ap (eqb v) same ∙ sym (here i v l)
-      by (inr l) = let f = not_there (byte_at 1) ts i l in let z : ◌≡◌ {A = ℕ} 0 1 = cc in absurd (omega arith)
+          let declared = (rule (rules_in ts) i).variables in
+          ap (λ o. option_eq eqb o (Some v)) (variables_byte i l) ∙ eqb-sym declared v ∙ sym (here i v l)
+      by (inr l) = ap (λ o. option_eq eqb o (Some v)) (not_there (byte_at 1) ts i l) ∙ sym (nowhere i v l)
+
+-- ── texts ──
+
+module _ (s : Sources) (fit : all_fit s.rules ≡ true) where
+  rule_short : (i : ℕ) → length (text_of s (OfRule i)) ≤ 517
+  rule_short i = by (cases_lt i (count_of s.rules))
+    where
+      by : (i < count_of s.rules) ⊎ (count_of s.rules ≤ i) → length (text_of s (OfRule i)) ≤ 517
+      by (inl m) =
+          subst (λ b. length (cond b (get_or s.rules i []) []) ≤ 517) (sym (lt-ltb i (count_of s.rules) m)) (fit_short (get_or s.rules i []) (fit_at s.rules i fit (omega arith)))
+      by (inr m) = subst (λ b. length (cond b (get_or s.rules i []) []) ≤ 517) (sym (le-ltb i (count_of s.rules) m)) (omega arith)
+
+  pub text_short : (x : Source) → length s.body ≤ 512 → length (text_of s x) ≤ 517
+  text_short OfQuery l = omega arith
+  text_short (OfRule i) l = rule_short i
 
   -- a rule that has the step's number of variables
-  pub record Chosen (body : List ℕ) (i v : ℕ) : Type 0 where
+  pub record Chosen (i v : ℕ) : Type 0 where
     pub few : v ≤ 64
-    pub comes : (slip table : List ℕ) (used first : ℕ) (us : List Term) → length us ≡ v → Listed slip table used first us
-        → Means slip table used (text_in ts body (OfRule i)) first 5 0 0 (map (present us) ((rule (rules_in ts) i).head ∷ (rule (rules_in ts) i).goals))
+    pub comes : (table : List ℕ) (first : ℕ) (us : List Term) → length us ≡ v → Listed s.slip table first us
+        → Comes s table (head_at i first) (map (present us) ((rule (rules_in s.rules) i).head ∷ (rule (rules_in s.rules) i).goals))
 
-  pub chosen : (body : List ℕ) (i v : ℕ) → true ≡ has_rule (rules_in ts) i v → Chosen body i v
-  chosen body i v e = by (cases_lt i (count_of ts))
+  pub chosen : (i v : ℕ) → true ≡ has_rule (rules_in s.rules) i v → Chosen i v
+  chosen i v e = by (cases_lt i (count_of s.rules))
     where
-      by : (i < count_of ts) ⊎ (count_of ts ≤ i) → Chosen body i v
+      by : (i < count_of s.rules) ⊎ (count_of s.rules ≤ i) → Chosen i v
       by (inl l) =
-          let t = rule_text i (omega arith) in
-          let r = rule (rules_in ts) i in
-          let same : v ≡ r.variables = eqb-true v r.variables (sym (e ∙ here i v l)) in
-          let text : text_in ts body (OfRule i) ≡ get_or ts i [] = ap (λ b. cond b (get_or ts i []) []) (lt-ltb i (count_of ts) l) in
+          let t = rule_text s.rules fit i (omega arith) in
+          let r = rule (rules_in s.rules) i in
+          let same : v ≡ r.variables = eqb-true v r.variables (sym (e ∙ here s.rules fit i v l)) in
+          let text : text_of s (OfRule i) ≡ get_or s.rules i [] = ap (λ b. cond b (get_or s.rules i []) []) (lt-ltb i (count_of s.rules) l) in
           record {
             few = omega (arith, t.fit.few_variables);
-            comes = λ slip table used first us n k.
+            comes = λ table first us n k.
                 record {
                   terms = us;
                   listed = k;
                   own = r.head ∷ r.goals;
                   in_text = ap (drop 5) (text ∙ t.bytes);
                   declared = subst (λ m. AllFit m (r.head ∷ r.goals)) (sym (n ∙ same)) t.fit.declared;
-                  inside = [];
-                  in_slip = nothing_here slip 0;
-                  counted = refl;
+                  short = rule_short i;
+                  due = [];
+                  in_slip = refl;
                   is = refl;
                 };
           }
-      by (inr l) = let f = nowhere i v l in let z : ◌≡◌ {A = ℕ} 0 1 = cc in absurd (omega arith)
-
-  -- ── bytes ──
-
-  module _ (body : List ℕ) where
-    -- what a store answers is a byte of the text
-    pub rule_byte_is : (i at : ℕ) → byte_of ts i at ≡ byte_at at (text_in ts body (OfRule i))
-    rule_byte_is i at = by (ltb i (count_of ts))
-      where
-        by : (b : Bool) → cond b (byte_at at (get_or ts i [])) None ≡ byte_at at (cond b (get_or ts i []) [])
-        by true = refl
-        by false = ap (λ b. cond b (Some 0) None) (sym (le-ltb at 0 (omega arith)))
-
-    pub text_short : (s : Source) → length body ≤ 512 → length (text_in ts body s) ≤ 517
-    text_short OfQuery l = omega arith
-    text_short (OfRule i) l = by (cases_lt i (count_of ts))
-      where
-        by : (i < count_of ts) ⊎ (count_of ts ≤ i) → length (text_in ts body (OfRule i)) ≤ 517
-        by (inl m) =
-            subst (λ b. length (cond b (get_or ts i []) []) ≤ 517) (sym (lt-ltb i (count_of ts) m)) (fit_short (get_or ts i []) (fit_at ts i fit (omega arith)))
-        by (inr m) = subst (λ b. length (cond b (get_or ts i []) []) ≤ 517) (sym (le-ltb i (count_of ts) m)) (omega arith)
+      by (inr l) = let f = nowhere s.rules fit i v l in absurd cc

@@ -1,5 +1,5 @@
 -- Reading the terms of a step one after the other. Assumes nothing.
-use Rattle.std.proofs.Common.{◌≡◌, ℕ, zero, suc, ◌+◌, ◌-◌, ◌<◌, ◌≤◌, ◌≢◌, List, [], ◌∷◌, ◌++◌, length, get_or, drop, set, Some, None, Ok, Err, Option, Result, sym, refl, ap, ◌∙◌, subst, ⊎_elim, arith, get_or-set_other, get_or-set_same}
+use Rattle.std.proofs.Common.{◌≡◌, ℕ, zero, suc, ◌+◌, ◌-◌, ◌<◌, ◌≤◌, List, [], ◌∷◌, ◌++◌, length, get_or, drop, Some, None, Ok, Err, Option, Result, sym, refl, ap, ◌∙◌, subst, ⊎_elim, append_assoc, arith, length-append}
 use Rattle.std.proofs.lemmas.List.{get_or_append_left, get_or-append_right}
 use Rattle.std.proofs.lemmas.Bool.{cases_lt}
 use Rattle.terms.specs.declared.Form.TheVariants.{Slips}
@@ -21,7 +21,7 @@ use Rattle.resolution.specs.Cells.{cell}
 use Rattle.slips.specs.Checker.{unknowns, placed, terms_at}
 use Rattle.slips.proofs.Written.{ahead}
 use Rattle.comparing.specs.Cursors.{Stands, Listed}
-use Rattle.comparing.specs.Places.{where_to}
+use Rattle.comparing.specs.Places.{where_to, Added}
 
 -- ── one term ──
 
@@ -51,12 +51,12 @@ declared_front (unknown_front k) a = omega (arith, a.0, a.1.0)
 
 -- every number of two bytes may be an unknown's
 declared : (p : ℕ) (bs : List ℕ) (c : Command) → AllBytes bs → Ok (Some c) ≡ first_command Slips p bs → Declared unknowns c
-declared p [] c a e = let z : ◌≡◌ {A = ℕ} 0 1 = cc in absurd (omega arith)
+declared p [] c a e = absurd cc
 declared p (b ∷ bs) c a e = by (command Slips p b bs) refl e
   where
     by : (r : Result Command CommandFault) → command Slips p b bs ≡ r → Ok (Some c) ≡ go r (λ e. e) (λ c. Ok (Some c)) → Declared unknowns c
     by (Ok d) q e = let same : d ≡ c = cc in subst (Declared unknowns) same (declared_front (front Slips p b bs d q) a.1)
-    by (Err x) q e = let z : ◌≡◌ {A = ℕ} 0 1 = cc in absurd (omega arith)
+    by (Err x) q e = absurd cc
 
 module _ {due p : ℕ} {bs : List ℕ} {n q : ℕ} {cs : List ℕ} (a : AllBytes bs) (s : Sofar Slips unknowns due p bs n q cs) (some : 0 < n) where
   -- the reader has taken a command more
@@ -104,31 +104,28 @@ one_term slip p q a e = by (terms unknowns 1 (from slip p)) refl e (encoded Slip
           read = h ∙ ap (λ c. Ok (t ∷ [], c)) (k.after ∙ ap (commands Slips (p + len)) rest ∙ ap (from slip) (sym place));
           stands = record { rest = k.rest; is = k.split };
         }
-    by (Err x) h e k n = let z : ◌≡◌ {A = ℕ} 0 1 = cc in absurd (omega arith)
+    by (Err x) h e k n = absurd cc
 
 one_fails : (slip : List ℕ) (p : ℕ) (x : RuleFault) → Err x ≡ where_to (terms_at 1 p slip) → terms unknowns 1 (from slip p) ≡ Err x
 one_fails slip p x e = by (terms unknowns 1 (from slip p)) refl e
   where
     by : (r : Reading) → terms unknowns 1 (from slip p) ≡ r → Err x ≡ where_to (placed r) → terms unknowns 1 (from slip p) ≡ Err x
-    by (Ok (ts, cs)) h e = let z : ◌≡◌ {A = ℕ} 0 1 = cc in absurd (omega arith)
+    by (Ok (ts, cs)) h e = absurd cc
     by (Err y) h e = let same : y ≡ x = cc in h ∙ ap Err same
 
--- k terms are read, from `place` on to `next`, and the table has where they begin
-pub record ReadSoFar (slip was table : List ℕ) (first place k next : ℕ) : Type 0 where
+-- k terms are read, from `place` on to `next`, and where they begin has come to the table
+pub record ReadSoFar (slip was table : List ℕ) (place k next : ℕ) : Type 0 where
   pub terms_read : List Term
   pub read : terms unknowns k (from slip place) ≡ Ok (terms_read, from slip next)
-  pub stand : (j : ℕ) → j < k → Stands slip (get_or table (first + j) 0) (cell terms_read j ∷ [])
-  pub kept : (j : ℕ) → j < first → get_or table j 0 ≡ get_or was j 0
+  pub added : Added was table k
+  pub stand : (j : ℕ) → j < k → Stands slip (get_or added.more j 0) (cell terms_read j ∷ [])
 
 count_of_read : (k : ℕ) (cs left : Commands) (ts : List Term) → terms unknowns k cs ≡ Ok (ts, left) → length ts ≡ k
 count_of_read k cs left ts e = subst (Counted k) e (counted unknowns k cs)
 
-pub none_read : (slip was : List ℕ) (first place : ℕ) → ReadSoFar slip was was first place 0 place
-none_read slip was first place = record { terms_read = []; read = refl; stand = λ j l. absurd (omega arith); kept = λ j l. refl }
-
-module _ {slip was table : List ℕ} {first place k next : ℕ} (bytes : AllBytes slip) (s : ReadSoFar slip was table first place k next) where
-  pub one_more_read : (q : ℕ) → first + k < length table → Ok q ≡ where_to (terms_at 1 next slip) → ReadSoFar slip was (set table (first + k) next) first place (k + 1) q
-  one_more_read q room e =
+module _ {slip was table : List ℕ} {place k next : ℕ} (bytes : AllBytes slip) (s : ReadSoFar slip was table place k next) where
+  pub one_more_read : (q : ℕ) (table2 : List ℕ) → table2 ≡ table ++ next ∷ [] → Ok q ≡ where_to (terms_at 1 next slip) → ReadSoFar slip was table2 place (k + 1) q
+  one_more_read q table2 put e =
       record {
         terms_read = s.terms_read ++ (o.term ∷ []);
         read =
@@ -136,30 +133,35 @@ module _ {slip was table : List ℕ} {first place k next : ℕ} (bytes : AllByte
             ∙ then_others unknowns k 1 (from slip place)
             ∙ ap (λ r. then_terms r (terms unknowns 1)) s.read
             ∙ ap (with_terms s.terms_read) o.read;
+        added =
+            record {
+              more = more ++ next ∷ [];
+              together = put ∙ ap (λ t. t ++ next ∷ []) s.added.together ∙ append_assoc was more (next ∷ []);
+              count = omega (arith, length-append more (next ∷ []), s.added.count);
+            };
         stand = λ j l. ⊎_elim (older j) (newest j l) (cases_lt j k);
-        kept = λ j l. get_or-set_other table (first + k) j next 0 (omega arith) ∙ s.kept j l;
       }
     where
+      more : List ℕ
+      more = s.added.more
+
       o : One slip next q
       o = one_term slip next q bytes e
 
       count : length s.terms_read ≡ k
       count = count_of_read k (from slip place) (from slip next) s.terms_read s.read
 
-      older : (j : ℕ) → j < k → Stands slip (get_or (set table (first + k) next) (first + j) 0) (cell (s.terms_read ++ (o.term ∷ [])) j ∷ [])
+      older : (j : ℕ) → j < k → Stands slip (get_or (more ++ next ∷ []) j 0) (cell (s.terms_read ++ (o.term ∷ [])) j ∷ [])
       older j l =
-          let apart : first + j ≢ first + k = omega arith in
-          subst (λ n. Stands slip n (cell (s.terms_read ++ (o.term ∷ [])) j ∷ [])) (sym (get_or-set_other table (first + k) (first + j) next 0 apart))
-          (subst (λ t. Stands slip (get_or table (first + j) 0) (t ∷ [])) (sym (get_or_append_left s.terms_read (o.term ∷ []) (atom 0) j (omega (arith, count)))) (s.stand j l))
+          subst (λ n. Stands slip n (cell (s.terms_read ++ (o.term ∷ [])) j ∷ [])) (sym (get_or_append_left more (next ∷ []) 0 j (omega (arith, s.added.count))))
+          (subst (λ t. Stands slip (get_or more j 0) (t ∷ [])) (sym (get_or_append_left s.terms_read (o.term ∷ []) (atom 0) j (omega (arith, count)))) (s.stand j l))
 
-      newest : (j : ℕ) → j < k + 1 → k ≤ j → Stands slip (get_or (set table (first + k) next) (first + j) 0) (cell (s.terms_read ++ (o.term ∷ [])) j ∷ [])
+      newest : (j : ℕ) → j < k + 1 → k ≤ j → Stands slip (get_or (more ++ next ∷ []) j 0) (cell (s.terms_read ++ (o.term ∷ [])) j ∷ [])
       newest j l m =
-          let same : k ≡ j = omega arith in
-          let here : get_or (s.terms_read ++ (o.term ∷ [])) k (atom 0) ≡ o.term =
-          get_or-append_right s.terms_read (o.term ∷ []) k k (atom 0) count (omega arith) ∙ ap (λ n. get_or (o.term ∷ []) n (atom 0)) (let z : k - k ≡ 0 = omega arith in z) in
-          subst (λ i. Stands slip (get_or (set table (first + k) next) (first + i) 0) (cell (s.terms_read ++ (o.term ∷ [])) i ∷ [])) same
-          (subst (λ n. Stands slip n (cell (s.terms_read ++ (o.term ∷ [])) k ∷ [])) (sym (get_or-set_same table (first + k) next 0 room))
-          (subst (λ t. Stands slip next (t ∷ [])) (sym here) o.stands))
+          let none : j - k ≡ 0 = omega arith in
+          let term : get_or (s.terms_read ++ (o.term ∷ [])) j (atom 0) ≡ o.term = get_or-append_right s.terms_read (o.term ∷ []) k j (atom 0) count m ∙ ap (λ n. get_or (o.term ∷ []) n (atom 0)) none in
+          let begin : get_or (more ++ next ∷ []) j 0 ≡ next = get_or-append_right more (next ∷ []) k j 0 s.added.count m ∙ ap (λ n. get_or (next ∷ []) n 0) none in
+          subst (λ n. Stands slip n (cell (s.terms_read ++ (o.term ∷ [])) j ∷ [])) (sym begin) (subst (λ t. Stands slip next (t ∷ [])) (sym term) o.stands)
 
   -- a fault at the next term is the fault of all
   pub fault_read : (n : ℕ) (x : RuleFault) → k < n → Err x ≡ where_to (terms_at 1 next slip) → Err x ≡ where_to (terms_at n place slip)
@@ -177,18 +179,24 @@ first_terms (Ok (ts, p)) = ts
 first_terms (Err e) = []
 
 -- all of them
-module _ {slip was table : List ℕ} {first place k next : ℕ} (s : ReadSoFar slip was table first place k next) where
+module _ {slip was table : List ℕ} {place k next : ℕ} (s : ReadSoFar slip was table place k next) where
   all_are : terms_at k place slip ≡ Ok (s.terms_read, next)
   all_are = ap placed s.read ∙ ap (λ n. Ok (s.terms_read, n)) (place_first Slips next (drop next slip))
 
   pub all_read : Ok next ≡ where_to (terms_at k place slip)
   all_read = sym (ap where_to all_are)
 
-  pub all_listed : (ts : List Term) (q : ℕ) → terms_at k place slip ≡ Ok (ts, q) → Listed slip table (first + k) first ts
+  pub all_listed : (ts : List Term) (q : ℕ) → terms_at k place slip ≡ Ok (ts, q) → Listed slip table (length was) ts
   all_listed ts q e =
       let same : s.terms_read ≡ ts = ap first_terms (sym all_are ∙ e) in
       let count = count_of_read k (from slip place) (from slip next) s.terms_read s.read in
-      subst (Listed slip table (first + k) first) same (record { within = omega arith; stand = λ j l. s.stand j (omega arith) })
+      let t = s.added in
+      let there : (j : ℕ) → get_or table (length was + j) 0 ≡ get_or t.more j 0 = λ j. (ap (λ l. get_or l (length was + j) 0) t.together
+      ∙ get_or-append_right was t.more (length was) (length was + j) 0 refl (omega arith) ∙ ap (λ n. get_or t.more n 0) (let n : (length was + j) - length was ≡ j = omega arith in n)) in
+      subst (Listed slip table (length was)) same (record {
+        within = omega (arith, ap length t.together, length-append was t.more, t.count, count);
+        stand = λ j l. subst (λ n. Stands slip n (cell s.terms_read j ∷ [])) (sym (there j)) (s.stand j (omega arith));
+      })
 
 -- terms that end at q
 pub record TermsRead (slip : List ℕ) (n p q : ℕ) : Type 0 where
@@ -201,11 +209,11 @@ terms_read_at slip n p q e = by (terms unknowns n (from slip p)) refl (counted u
   where
     by : (r : Reading) → terms unknowns n (from slip p) ≡ r → Counted n r → Ok q ≡ where_to (placed r) → TermsRead slip n p q
     by (Ok (ts, cs)) h k e = let same : q ≡ place_of cs = cc in record { terms_are = ts; read = ap placed h ∙ ap (λ m. Ok (ts, m)) (sym same); count = k }
-    by (Err x) h k e = let z : ◌≡◌ {A = ℕ} 0 1 = cc in absurd (omega arith)
+    by (Err x) h k e = absurd cc
 
 pub terms_fail_at : (slip : List ℕ) (n p : ℕ) (x : RuleFault) → Err x ≡ where_to (terms_at n p slip) → terms_at n p slip ≡ Err x
 terms_fail_at slip n p x e = by (terms_at n p slip) refl e
   where
     by : (r : Result (List Term × ℕ) RuleFault) → terms_at n p slip ≡ r → Err x ≡ where_to r → terms_at n p slip ≡ Err x
-    by (Ok (ts, q)) h e = let z : ◌≡◌ {A = ℕ} 0 1 = cc in absurd (omega arith)
+    by (Ok (ts, q)) h e = absurd cc
     by (Err y) h e = let same : y ≡ x = cc in h ∙ ap Err same

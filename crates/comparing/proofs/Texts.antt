@@ -3,10 +3,10 @@ use Rattle.std.proofs.Common.{ℕ, List, ◌∷◌}
 use Rattle.terms.specs.Terms.{Term}
 use Rattle.comparing.specs.declared.Cursor.{Cursor}
 use Rattle.comparing.specs.Comparisons.{Comparing}
-use Rattle.comparing.specs.Texts.{Comes}
+use Rattle.comparing.specs.Texts.{Sources, Comes}
 
 -- whatever terms were to come at the cursors, they are the same exactly where those are that are due now
-abbrev pub Goes_on : List (List ℕ) → List ℕ → List ℕ → List ℕ → Cursor → Cursor → Cursor → Cursor → ℕ → Type 0
-Goes_on rules body slip table one other one2 other2 due =
-    (used : ℕ) (s : Term) (ss : List Term) (t : Term) (ts : List Term) → Comes rules body slip table used one (s ∷ ss) → Comes rules body slip table used other (t ∷ ts)
-    → Comparing s ss t ts (Comes rules body slip table used one2) (Comes rules body slip table used other2) due
+abbrev pub Goes_on : Sources → List ℕ → Cursor → Cursor → Cursor → Cursor → ℕ → Type 0
+Goes_on s table one other one2 other2 due =
+    (x : Term) (xs : List Term) (y : Term) (ys : List Term) → Comes s table one (x ∷ xs) → Comes s table other (y ∷ ys)
+    → Comparing x xs y ys (Comes s table one2) (Comes s table other2) due

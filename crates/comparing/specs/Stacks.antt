@@ -1,8 +1,8 @@
 -- A stack of lists of goals, as one list. Assumes nothing.
-use Rattle.std.specs.Prelude.{◌≡◌, ℕ, zero, suc, List, [], ◌++◌}
+use Rattle.std.specs.Prelude.{◌≡◌, List, [], ◌∷◌, ◌++◌}
 use Rattle.terms.specs.Terms.{Term}
 
--- the goals of the places below a depth, the top one's first; Has says which goals a place has
-abbrev pub Stacked : (ℕ → List Term → Type 0) → ℕ → List Term → Type 0
-Stacked Has zero goals = goals ≡ []
-Stacked Has (suc depth) goals = (own : List Term) × (below : List Term) × Has depth own × Stacked Has depth below × (goals ≡ own ++ below)
+-- the goals of a stack, whose last item is its top: the top one's come first; Has says which goals an item has
+abbrev pub Stacked : {X : Type 0} → (X → List Term → Type 0) → List X → List Term → Type 0
+Stacked Has [] goals = goals ≡ []
+Stacked Has (x ∷ xs) goals = (own : List Term) × (above : List Term) × Has x own × Stacked Has xs above × (goals ≡ above ++ own)

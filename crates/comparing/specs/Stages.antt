@@ -1,83 +1,75 @@
--- How far a slip has been checked: what is still to be shown, in tables of fixed size. Assumes nothing.
-use Rattle.std.specs.Prelude.{◌≡◌, ℕ, suc, ◌+◌, ◌-◌, ◌*◌, ◌≤◌, Bool, true, false, List, [], ◌∷◌, ◌++◌, length, Ok, Err, Result, slice_index_or, slice_set}
-use Rattle.terms.specs.Terms.{Term, Rule as TermRule}
+-- How far a slip has been checked: what is still to be shown. Assumes nothing.
+use Rattle.std.specs.Prelude.{◌≡◌, ℕ, suc, ◌+◌, ◌*◌, ◌≤◌, Bool, true, false, List, [], ◌∷◌, ◌++◌, length, Ok, Err, Result, Some, None, Option}
+use Rattle.terms.specs.Terms.{Term}
+use Rattle.grammar.specs.Texts.{all_fit}
 use Rattle.resolution.specs.Limits.{step_limit}
 use Rattle.slips.specs.declared.faults.SlipFault.{SlipFault}
 use Rattle.slips.specs.declared.faults.CheckFault.{CheckFault}
 use Rattle.slips.specs.declared.faults.CheckFault.TheVariants.{InSlip}
 use Rattle.slips.specs.Checker.{step}
-use Rattle.comparing.specs.declared.Source.TheVariants.{Query, Rule}
+use Rattle.slips.specs.Opening.{rules_in}
+use Rattle.comparing.specs.declared.Source.TheVariants.{Rule}
 use Rattle.comparing.specs.declared.Cursor.{Cursor}
 use Rattle.comparing.specs.Stacks.{Stacked}
-use Rattle.comparing.specs.Texts.{Comes}
-
--- a cursor that stands nowhere
-abbrev pub nowhere : Cursor
-nowhere = record { source = Query; place = 0; first = 0; inner = 0; due = 0 }
+use Rattle.comparing.specs.Texts.{Sources, Comes}
 
 -- a list has a term
 abbrev pub has_some : List Term → Bool
 has_some [] = false
 has_some (t ∷ ts) = true
 
--- a table of where terms begin, of which so many entries are taken, and a stack of cursors, after so many steps
+-- where the terms of the query's variables and of the steps begin, a stack of cursors, the next byte of the slip, and the
+-- steps completed
 pub record Tables : Type 0 where
   pub table : List ℕ
-  pub used : ℕ
   pub frames : List Cursor
-  pub depth : ℕ
+  pub place : ℕ
   pub steps : ℕ
 
--- the tables have room: for the terms of the query and of each step, and for a cursor for each
-pub record Sized (t : Tables) : Type 0 where
-  pub table_long : length t.table ≡ 32832
-  pub frames_long : length t.frames ≡ 513
-  pub few_terms : t.used ≤ 64 * (t.steps + 1)
-  pub few_frames : t.depth ≤ t.steps + 1
+-- 64 terms at most for the query and for each step, and so many cursors
+pub record Sized (t : Tables) (cursors : ℕ) : Type 0 where
+  pub few_terms : length t.table ≤ 64 * (t.steps + 1)
+  pub few_frames : length t.frames ≤ cursors
   pub few_steps : t.steps ≤ step_limit
 
--- the tables with another table of where terms begin
-abbrev pub with_table : Tables → List ℕ → Tables
-with_table t table = record { table = table; used = t.used; frames = t.frames; depth = t.depth; steps = t.steps }
+-- the tables without the frames that are taken off
+abbrev pub with_frames : Tables → List Cursor → Tables
+with_frames t frames = record { table = t.table; frames = frames; place = t.place; steps = t.steps }
 
--- after a step with v terms: the goal's cursor behind the goal, and the head's cursor, at the rule's goals, on top
-abbrev pub pushed : Tables → Cursor → Cursor → ℕ → Tables
-pushed t goal head v =
-    record { table = t.table; used = t.used + v; frames = slice_set (slice_set t.frames (t.depth - 1) goal) t.depth head; depth = t.depth + 1; steps = t.steps + 1 }
+-- after a step that ends at q: the goal's cursor behind the goal, and the head's cursor, at the rule's goals, on top
+abbrev pub pushed : Tables → List ℕ → Cursor → Cursor → ℕ → Tables
+pushed t table goal head q = record { table = table; frames = (t.frames ++ goal ∷ []) ++ head ∷ []; place = q; steps = t.steps + 1 }
 
 -- the cursor at the head of a rule
 abbrev pub head_at : ℕ → ℕ → Cursor
-head_at i first = record { source = Rule i; place = 5; first = first; inner = 0; due = 0 }
+head_at i first = record { source = Rule i; place = 5; first = first; inside = None }
 
-module _ (rules : List (List ℕ)) (body slip : List ℕ) where
-  -- the goals that a frame has
-  abbrev pub Has : Tables → ℕ → List Term → Type 0
-  Has t d own = Comes rules body slip t.table t.used (slice_index_or t.frames d nowhere) own
+-- these goals are to be shown
+pub record Stage (s : Sources) (t : Tables) (goals : List Term) : Type 0 where
+  pub fit : all_fit s.rules ≡ true
+  pub sized : Sized t (t.steps + 1)
+  pub stacked : Stacked (Comes s t.table) t.frames goals
 
-  -- these goals are to be shown
-  pub record Stage (t : Tables) (goals : List Term) : Type 0 where
-    pub sized : Sized t
-    pub stacked : Stacked (Has t) t.depth goals
+-- the goal g, which is next at the cursor c, and then the others
+pub record Ready (s : Sources) (t : Tables) (c : Cursor) (g : Term) (goals : List Term) : Type 0 where
+  pub fit : all_fit s.rules ≡ true
+  pub sized : Sized t t.steps
+  pub own : List Term
+  pub below : List Term
+  pub comes : Comes s t.table c (g ∷ own)
+  pub stacked : Stacked (Comes s t.table) t.frames below
+  pub goals_are : goals ≡ own ++ below
 
-  -- the goal g, which the top frame has, and then the others
-  pub record Ready (t : Tables) (g : Term) (goals : List Term) : Type 0 where
-    pub sized : Sized t
-    pub top : ℕ
-    pub top_is : t.depth ≡ suc top
-    pub own : List Term
-    pub below : List Term
-    pub has : Has t top (g ∷ own)
-    pub stacked : Stacked (Has t) top below
-    pub goals_are : goals ≡ own ++ below
+-- frames that are done are taken off: the top one of the others, which has the next goal, or none where no goal remains
+abbrev pub Next : Sources → List ℕ → List Cursor → Option Cursor → List Term → Type 0
+Next s table frames None goals = goals ≡ []
+Next s table frames (Some c) goals =
+    (g : Term) × (own : List Term) × (below : List Term) × Comes s table c (g ∷ own) × Stacked (Comes s table) frames below × (goals ≡ g ∷ (own ++ below))
 
-  -- frames that are done are taken off: a goal is ready if there is one
-  abbrev pub Settled : Bool → Tables → List Term → Type 0
-  Settled true t [] = ⊥
-  Settled true t (g ∷ goals) = Ready t g goals
-  Settled false t goals = goals ≡ []
-
-  -- what a step at p comes to that is to show g before the other goals
-  abbrev pub Stepped : List TermRule → ℕ → ℕ → Term → List Term → Result Unit SlipFault → Tables → ℕ → Type 0
-  Stepped rs n p g goals (Err e) t q = (more : List Term → ℕ → Result Unit CheckFault) → step rs slip n p g more ≡ Err (InSlip e n)
-  Stepped rs n p g goals (Ok u) t q =
-      (own : List Term) × ((more : List Term → ℕ → Result Unit CheckFault) → step rs slip n p g more ≡ more own q) × Stage t (own ++ goals) × (t.steps ≡ suc n)
+-- what a step comes to that is to show g before the other goals
+abbrev pub Stepped : Sources → Tables → Term → List Term → Result Unit SlipFault → Tables → Type 0
+Stepped s t g goals (Err e) u =
+    ((more : List Term → ℕ → Result Unit CheckFault) → step (rules_in s.rules) s.slip t.steps t.place g more ≡ Err (InSlip e t.steps)) × (u.steps ≡ t.steps)
+Stepped s t g goals (Ok x) u =
+    (own : List Term) × ((more : List Term → ℕ → Result Unit CheckFault) → step (rules_in s.rules) s.slip t.steps t.place g more ≡ more own u.place)
+    × Stage s u (own ++ goals) × (u.steps ≡ suc t.steps)

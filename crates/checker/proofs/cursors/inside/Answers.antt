@@ -1,50 +1,37 @@
-use Rattle.std.proofs.Common.{◌≡◌, ℕ, ◌+◌, drop, Some, Ok, sym, refl, ap, ◌∙◌, ap₂, arith}
+use Rattle.std.proofs.Common.{◌≡◌, ◌+◌, drop, ltb, Some, Ok, IsOk, sym, refl, ap, ◌∙◌, subst, ap₂, arith}
+use Rattle.std.specs.Bool.{then_some}
+use Rattle.std.specs.Option.{IsSome}
 use Rattle.terms.specs.declared.Form.TheVariants.{Slips}
 use Rattle.reading.specs.Taking.{first_command, size, taken_size}
-use Rattle.comparing.proofs.Fronts.{few, front_there, went_on}
+use Rattle.comparing.specs.Cursors.{Went}
+use Rattle.comparing.proofs.Fronts.{front_there, went_on}
 use Rattle.checker.proofs.cursors.inside.Goals as goal
-use Rattle.checker.proofs.cursors.inside.Goals.{In_ok-command}
+use Rattle.checker.proofs.cursors.inside.Goals.{After-command}
 
-pub returns-in_default : goal.returns-in_default
-returns-in_default c =
-    let k = front_there c.args.slip.now c.args.cursor.now.inner c.args.cursor.now.due c.requires.due c.requires.stands in
-    let v = c.in_default.ensures.value ∙ ap₂ (first_command Slips) c.from_place-reader.ensures.place c.from_place-reader.ensures.bytes ∙ k.1 in
-    let z : ◌≡◌ {A = ℕ} 0 1 = cc in
-    absurd (omega arith)
+-- what the reader read
+read : (c : After-command) → c.command.result ≡ first_command Slips c.args.at.place (drop c.args.at.place c.args.slip.now)
+read c = c.command.ensures.value ∙ ap₂ (first_command Slips) c.from_place-reader.ensures.place c.from_place-reader.ensures.bytes
 
-pub returns-in_err-command : goal.returns-in_err-command
-returns-in_err-command c =
-    let k = front_there c.args.slip.now c.args.cursor.now.inner c.args.cursor.now.due c.requires.due c.requires.stands in
-    let v = ap Ok (sym c.in_err-command.was) ∙ c.in-Ok.ensures.value ∙ ap₂ (first_command Slips) c.from_place-reader.ensures.place c.from_place-reader.ensures.bytes ∙ k.1 in
-    let z : ◌≡◌ {A = ℕ} 0 1 = cc in
-    absurd (omega arith)
+pub unwrap-requires : goal.unwrap-requires
+unwrap-requires c = subst IsOk (sym (read c ∙ (front_there c.args.slip.now c.args.at c.requires).1)) refl
 
--- the command that was read, and the place behind it
-read : (c : In_ok-command) → Ok (Some c.in_ok-command.command) ≡ first_command Slips c.args.cursor.now.inner (drop c.args.cursor.now.inner c.args.slip.now)
-read c =
-    ap Ok (sym c.in_ok-command.was)
-    ∙ c.in-Ok.ensures.value
-    ∙ ap₂ (first_command Slips) c.from_place-reader.ensures.place c.from_place-reader.ensures.bytes
+pub unwrap-command-requires : goal.unwrap-command-requires
+unwrap-command-requires c =
+    let k = (front_there c.args.slip.now c.args.at c.requires).1 in
+    let r = read (goal.at.unwrap-command-requires c).After-command in
+    let same : c.unwrap.result ≡ Some (front_there c.args.slip.now c.args.at c.requires).0 = cc in
+    subst IsSome (sym same) refl
 
-behind : (c : In_ok-command) → c.command.new.self.place ≡ c.args.cursor.now.inner + size Slips c.in_ok-command.command
-behind c =
-    c.in-Ok.ensures.place
-    ∙ ap₂ (λ p o. p + taken_size Slips (Ok o)) c.from_place-reader.ensures.place c.in_ok-command.was
+pub due_after-due-requires-clause-room : goal.due_after-due-requires-clause-room
+due_after-due-requires-clause-room c = let k = front_there c.args.slip.now c.args.at c.requires in omega arith
 
-pub due_after-cursor-requires : goal.due_after-cursor-requires
-due_after-cursor-requires c =
-    let p = c.requires.stands in
-    let low = few c.args.slip.now c.args.cursor.now.inner p.0 p.1 in
-    record { some = c.requires.due; room = omega (arith, low, p.2) }
-
-pub returns : goal.returns
-returns c =
-    let d = (goal.at.returns c).In_ok-command in
-    let k = front_there c.args.slip.now c.args.cursor.now.inner c.args.cursor.now.due c.requires.due c.requires.stands in
-    let place = c.place-cursor.ensures ∙ behind d in
-    record {
-      went = went_on c.args.slip.now c.args.cursor.now.inner c.args.cursor.now.due c.requires.due c.in_ok-command.command _ c.due_after-cursor.result (read d) place c.due_after-cursor.ensures;
-      onward = omega (arith, place);
-      within = k.2;
-      rest = refl;
-    }
+pub returns-clause-went : goal.returns-clause-went
+returns-clause-went c = λ ts s.
+    let slip = c.args.slip.now in
+    let at = c.args.at in
+    let command = c.unwrap-command.result in
+    let found : c.command.result ≡ Ok (Some command) = c.unwrap.ensures ∙ ap Ok c.unwrap-command.ensures in
+    let place : c.place.result ≡ at.place + size Slips command =
+    c.place.ensures ∙ c.command.ensures.place ∙ ap₂ (λ p r. p + taken_size Slips r) c.from_place-reader.ensures.place found in
+    let left = c.then_some.ensures ∙ ap (λ n. then_some (ltb 0 n) (record { place = c.place.result; due = n })) c.due_after-due.ensures in
+    subst (λ o. Went slip command o ts) (sym left) (went_on slip at command c.place.result (sym found ∙ read (goal.at.returns-clause-went c).After-command) place ts s)

@@ -1,5 +1,5 @@
 use Rattle.comparing.proofs.Terms.{ReadSoFar}
 use Rattle.checker.proofs.places.read_terms.Given as goal
 
-abbrev pub invariant-loop-k : goal.invariant-loop-k
-invariant-loop-k l = ReadSoFar l.slip l.initial.table l.table l.first l.place l.k l.next
+abbrev pub invariant-loop : goal.invariant-loop
+invariant-loop l = ReadSoFar l.slip l.initial.table.items l.table.items l.place l.counter l.next

@@ -2,13 +2,14 @@ use Rattle.std.proofs.Common.{◌-◌, List}
 use Rattle.terms.specs.Terms.{Term}
 use Rattle.comparing.specs.Stages.{Stage}
 use Rattle.comparing.proofs.Runs.{Onward}
+use Rattle.checker.specs.Texts.{sources}
 use Rattle.checker.specs.Progress.{tables}
 use Rattle.checker.proofs.progress.Progress.run.Given as goal
 
-abbrev pub invariant-loop-steps : goal.invariant-loop-steps
-invariant-loop-steps g l =
-    (goals : List Term) → Stage (g.S.Store.rules l.texts.store.now) l.texts.body.now l.slip (tables l.initial.self) goals
-    → Onward (g.S.Store.rules l.texts.store.now) l.texts.body.now l.slip l.initial.self.steps l.initial.self.place goals (tables l.self) l.self.place
+abbrev pub invariant-loop-goal : goal.invariant-loop-goal
+invariant-loop-goal g l =
+    (goals : List Term) → Stage (sources g.S.Store.rules l.texts) (tables l.initial.self) goals
+    → Onward (sources g.S.Store.rules l.texts) (tables l.initial.self) goals (tables l.self)
 
-abbrev pub decreases-loop-steps : goal.decreases-loop-steps
-decreases-loop-steps g l = 512 - l.self.steps
+abbrev pub decreases-loop-goal : goal.decreases-loop-goal
+decreases-loop-goal g l = 512 - l.self.steps

@@ -1,91 +1,76 @@
-use Rattle.std.proofs.Common.{◌∷◌, Ok, sym, ◌∙◌, subst, arith}
+use Rattle.std.proofs.Common.{◌+◌, ◌∷◌, ◌++◌, [], length, Ok, Err, sym, refl, ap, ◌∙◌, subst, arith}
 use Rattle.std.proofs.lemmas.Result.{err_from_is_err_and}
+use Rattle.comparing.specs.Places.{Added}
+use Rattle.comparing.specs.Stages.{Stepped, head_at}
+use Rattle.comparing.specs.Texts.{SomeTerm, Agreed}
 use Rattle.slips.specs.Opening.{rules_in}
-use Rattle.comparing.specs.Stages.{Stepped, pushed, with_table, head_at}
-use Rattle.comparing.specs.Texts.{Comes, BothCome}
-use Rattle.comparing.proofs.Stages.{stepped_err, not_shown, shown}
-use Rattle.comparing.proofs.Steps.{not_chosen, terms_fail, choice, top_inside, room, both_come, refuses, goes_on}
+use Rattle.comparing.proofs.Steps.{not_chosen, terms_fail, room, both_come, refuses, goes_on}
+use Rattle.checker.specs.Texts.{sources}
 use Rattle.checker.specs.Progress.{tables}
+use Rattle.checker.proofs.progress.Progress.step.Given as given
 use Rattle.checker.proofs.progress.Progress.step.Goals as goal
+use Rattle.checker.proofs.progress.Progress.step.Goals.{In_ok-next, After-agree}
 
-pub returns-in_err-rule : goal.returns-in_err-rule
-returns-in_err-rule g c = λ goal goals r.
-    let rules = g.S.Store.rules c.args.texts.now.store.now in
+pub returns-in_err-step : goal.returns-in_err-step
+returns-in_err-step g c = λ gl goals r.
+    let s = sources g.S.Store.rules c.args.texts.now in
+    let t = tables c.args.self.now in
     let p = err_from_is_err_and c.from_residual.result c.from_residual.ensures.1 in
-    stepped_err rules c.args.texts.now.body.now c.args.slip.now (rules_in rules) c.args.self.now.steps c.args.self.now.place goal goals c.from_residual.result _ _ _ _ p.1 p.2
-    (λ more. not_chosen (rules_in rules) c.args.slip.now c.args.self.now.steps c.args.self.now.place goal more _ c.in_err-rule.ensures)
-
-pub behind_operands-terms-requires : goal.behind_operands-terms-requires
-behind_operands-terms-requires g c =
-    let rules = g.S.Store.rules c.args.texts.now.store.now in
-    (choice (rules_in rules) c.args.slip.now c.args.self.now.steps c.args.self.now.place c.in_ok-rule.rule c.in_ok-rule.count c.in_ok-rule.ensures).inside
+    subst (λ x. Stepped s t gl goals x t) (sym (p.1 ∙ ap Err p.2))
+    ((λ more. not_chosen (rules_in s.rules) s.slip t.steps t.place gl more _ c.in_err-step.ensures), refl)
 
 pub read_terms-requires : goal.read_terms-requires
 read_terms-requires g c =
-    let store = c.args.texts.now.store.now in
-    let p = c.requires.ready in
-    record { room = (room (g.S.Store.rules store) (g.S.Store.fit store) c.args.texts.now.body.now c.args.slip.now (tables c.args.self.now) p.0 p.1 p.2 c.args.self.now.place c.in_ok-rule.rule c.in_ok-rule.count c.in_ok-rule.ensures).0 }
+    let r = c.requires in
+    let k = room (sources g.S.Store.rules c.args.texts.now) (tables c.args.self.now) c.args.goal r.0 r.1 r.2 c.in_ok-step.step c.in_ok-step.ensures in
+    omega (arith, k.0, k.2)
 
 pub returns-in_err-next : goal.returns-in_err-next
-returns-in_err-next g c = λ goal goals r.
-    let rules = g.S.Store.rules c.args.texts.now.store.now in
+returns-in_err-next g c = λ gl goals r.
+    let s = sources g.S.Store.rules c.args.texts.now in
+    let t = tables c.args.self.now in
     let p = err_from_is_err_and c.from_residual-in_err-next.result c.from_residual-in_err-next.ensures.1 in
-    stepped_err rules c.args.texts.now.body.now c.args.slip.now (rules_in rules) c.args.self.now.steps c.args.self.now.place goal goals c.from_residual-in_err-next.result _ _ _ _ p.1 p.2
-    (λ more. terms_fail (rules_in rules) c.args.slip.now c.args.self.now.steps c.args.self.now.place goal more c.in_ok-rule.rule c.in_ok-rule.count c.in_ok-rule.ensures _ (rw c.behind_operands-terms.ensures at c.in_err-next.ensures).value)
+    subst (λ x. Stepped s t gl goals x (record { table = c.read_terms.new.table.items; frames = t.frames; place = t.place; steps = t.steps })) (sym (p.1 ∙ ap Err p.2))
+    ((λ more. terms_fail (rules_in s.rules) s.slip t.steps t.place gl more c.in_ok-step.step c.in_ok-step.ensures _ c.in_err-next.ensures.value), refl)
 
-pub top-goal-requires : goal.top-goal-requires
-top-goal-requires g c =
-    let p = c.requires.ready in
-    let z = p.2.sized in
-    record { some = omega (arith, p.2.top_is); inside = omega (arith, z.few_frames, z.few_steps) }
+-- the terms that were read have come to the table
+added : (g : given.Over) (c : In_ok-next g) → Added c.args.self.now.table.items c.read_terms.new.table.items c.in_ok-step.step.count
+added g c = c.in_ok-next.ensures.added
 
 pub agree-requires : goal.agree-requires
 agree-requires g c =
-    let store = c.args.texts.now.store.now in
-    let p = c.requires.ready in
-    let h = rw c.behind_operands-terms.ensures at c.in_ok-next.ensures in
+    let s = sources g.S.Store.rules c.args.texts.now in
+    let t = tables c.args.self.now in
+    let r = c.requires in
+    let h = c.in_ok-step.step in
+    let k = both_come s t c.args.goal r.0 r.1 r.2 h c.in_ok-step.ensures c.read_terms.new.table.items c.in_ok-next.next (added g (goal.at.agree-requires g c).In_ok-next) c.in_ok-next.ensures.listed c.in_ok-next.ensures.value in
     record {
-      short = c.requires.short;
-      both =
-          subst (BothCome (g.S.Store.rules store) c.args.texts.now.body.now c.args.slip.now c.read_terms.new.table (head_at c.in_ok-rule.rule c.args.self.now.used)) (sym c.top-goal.ensures)
-          (both_come (g.S.Store.rules store) (g.S.Store.fit store) c.args.texts.now.body.now c.args.slip.now (tables c.args.self.now) p.0 p.1 p.2
-          c.args.self.now.place c.in_ok-rule.rule c.in_ok-rule.count c.in_ok-rule.ensures
-          c.read_terms.new.table c.in_ok-next.next c.read_terms.auto.table h.kept h.listed h.value);
+      head = subst (λ tb. SomeTerm s tb (head_at h.rule c.len.result)) (sym c.as_slice.ensures.value) (subst (λ n. SomeTerm s c.read_terms.new.table.items (head_at h.rule n)) (sym c.len.ensures.value) k.0);
+      goal = subst (λ tb. SomeTerm s tb c.args.goal) (sym c.as_slice.ensures.value) k.1;
     }
 
-pub returns-in_err-same_goal : goal.returns-in_err-same_goal
-returns-in_err-same_goal g c = λ goal goals r.
-    let store = c.args.texts.now.store.now in
-    let rules = g.S.Store.rules store in
-    let h = rw c.behind_operands-terms.ensures at c.in_ok-next.ensures in
-    let p = err_from_is_err_and c.from_residual-in_err-same_goal.result c.from_residual-in_err-same_goal.ensures.1 in
-    let k = not_shown c.args.self.now.place c.agree.result _ c.in_err-same_goal.ensures in
-    stepped_err rules c.args.texts.now.body.now c.args.slip.now (rules_in rules) c.args.self.now.steps c.args.self.now.place goal goals c.from_residual-in_err-same_goal.result _ _ _ _ p.1 (p.2 ∙ k.1)
-    (refuses rules (g.S.Store.fit store) c.args.texts.now.body.now c.args.slip.now (tables c.args.self.now) goal goals r
-    c.args.self.now.place c.in_ok-rule.rule c.in_ok-rule.count c.in_ok-rule.ensures
-    c.read_terms.new.table c.in_ok-next.next c.read_terms.auto.table h.kept h.listed h.value
-    c.agree.new.head c.agree.new.goal c.agree.result (λ used s ss u us a b. c.agree.ensures used s ss u us a (subst (λ x. Comes rules c.args.texts.now.body.now c.args.slip.now c.read_terms.new.table used x (u ∷ us)) (sym c.top-goal.ensures) b)) k.0)
+-- the head and the goal were compared
+agreed : (g : given.Over) (c : After-agree g)
+    → Agreed (sources g.S.Store.rules c.args.texts.now) c.read_terms.new.table.items (head_at c.in_ok-step.step.rule (length c.args.self.now.table.items)) c.args.goal c.agree.new.head c.agree.new.goal c.agree.result
+agreed g c =
+    let s = sources g.S.Store.rules c.args.texts.now in
+    let h = c.in_ok-step.step in
+    subst (λ n. Agreed s c.read_terms.new.table.items (head_at h.rule n) c.args.goal c.agree.new.head c.agree.new.goal c.agree.result) c.len.ensures.value
+    (subst (λ tb. Agreed s tb (head_at h.rule c.len.result) c.args.goal c.agree.new.head c.agree.new.goal c.agree.result) c.as_slice.ensures.value c.agree.ensures)
 
-pub push-requires : goal.push-requires
-push-requires g c =
-    let store = c.args.texts.now.store.now in
-    let p = c.requires.ready in
-    let k = room (g.S.Store.rules store) (g.S.Store.fit store) c.args.texts.now.body.now c.args.slip.now (tables c.args.self.now) p.0 p.1 p.2 c.args.self.now.place c.in_ok-rule.rule c.in_ok-rule.count c.in_ok-rule.ensures in
-    record {
-      top = (top_inside (g.S.Store.rules store) (g.S.Store.fit store) c.args.texts.now.body.now c.args.slip.now (tables c.args.self.now) p.0 p.1 p.2).1;
-      room = k.1;
-      terms = omega (arith, k.0, p.2.sized.table_long);
-      few = k.2;
-    }
+pub returns-then-not-agree : goal.returns-then-not-agree
+returns-then-not-agree g c = λ gl goals r. (
+  refuses (sources g.S.Store.rules c.args.texts.now) (tables c.args.self.now) c.args.goal gl goals r c.in_ok-step.step c.in_ok-step.ensures c.read_terms.new.table.items c.in_ok-next.next
+      (added g (goal.at.returns-then-not-agree g c).In_ok-next) c.in_ok-next.ensures.listed c.in_ok-next.ensures.value c.agree.new.head c.agree.new.goal c.agree.result
+      (agreed g (goal.at.returns-then-not-agree g c).After-agree) c.if-not-agree.true,
+  refl,
+)
 
 pub returns : goal.returns
-returns g c = λ goal goals r.
-    let store = c.args.texts.now.store.now in
-    let rules = g.S.Store.rules store in
-    let h = rw c.behind_operands-terms.ensures at c.in_ok-next.ensures in
-    subst (λ t. Stepped rules c.args.texts.now.body.now c.args.slip.now (rules_in rules) c.args.self.now.steps c.args.self.now.place goal goals (Ok tt) t c.push.new.self.place) (sym c.push.ensures.tables)
-    (subst (λ q. Stepped rules c.args.texts.now.body.now c.args.slip.now (rules_in rules) c.args.self.now.steps c.args.self.now.place goal goals (Ok tt) (pushed (with_table (tables c.args.self.now) c.read_terms.new.table) c.agree.new.goal c.agree.new.head c.in_ok-rule.count) q) (sym c.push.ensures.place)
-    (goes_on rules (g.S.Store.fit store) c.args.texts.now.body.now c.args.slip.now (tables c.args.self.now) goal goals r
-    c.args.self.now.place c.in_ok-rule.rule c.in_ok-rule.count c.in_ok-rule.ensures
-    c.read_terms.new.table c.in_ok-next.next c.read_terms.auto.table h.kept h.listed h.value
-    c.agree.new.head c.agree.new.goal c.agree.result (λ used s ss u us a b. c.agree.ensures used s ss u us a (subst (λ x. Comes rules c.args.texts.now.body.now c.args.slip.now c.read_terms.new.table used x (u ∷ us)) (sym c.top-goal.ensures) b)) (shown c.args.self.now.place c.agree.result _ c.in_ok-same_goal.ensures)))
+returns g c = λ gl goals r.
+    let s = sources g.S.Store.rules c.args.texts.now in
+    let t = tables c.args.self.now in
+    let table = c.read_terms.new.table.items in
+    subst (λ fs. Stepped s t gl goals (Ok tt) (record { table = table; frames = fs; place = c.in_ok-next.next; steps = t.steps + 1 })) (sym (c.push-2.ensures.items ∙ ap (λ fs. fs ++ c.agree.new.head ∷ []) c.push.ensures.items))
+    (goes_on s t c.args.goal gl goals r c.in_ok-step.step c.in_ok-step.ensures table c.in_ok-next.next (added g (goal.at.returns g c).In_ok-next) c.in_ok-next.ensures.listed c.in_ok-next.ensures.value
+    c.agree.new.head c.agree.new.goal c.agree.result (agreed g (goal.at.returns g c).After-agree) c.if-not-agree.false)

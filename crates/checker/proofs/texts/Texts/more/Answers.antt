@@ -1,12 +1,11 @@
-use Rattle.std.proofs.Common.{arith}
-use Rattle.comparing.proofs.Stages.{some_inside, some_text, none_text}
+use Rattle.std.proofs.Common.{sym, ap, ◌∙◌}
+use Rattle.std.specs.Option.{is_some}
+use Rattle.comparing.proofs.Stages.{due_more, text_more}
 use Rattle.checker.proofs.texts.Texts.more.Goals as goal
 
-pub returns-then-cursor-gt0 : goal.returns-then-cursor-gt0
-returns-then-cursor-gt0 g c = λ slip table used pending m. some_inside m c.if-cursor-gt0.true
+pub returns-then-is_some : goal.returns-then-is_some
+returns-then-is_some g c = λ table pending m. c.if-is_some.true ∙ due_more c.args.cursor.now.inside (sym c.is_some.ensures ∙ c.if-is_some.true) m
 
-pub returns-in-Some : goal.returns-in-Some
-returns-in-Some g c = λ slip table used pending m. some_text m (omega (arith, c.if-cursor-gt0.false)) _ c.in-Some.ensures
-
-pub returns-in-None : goal.returns-in-None
-returns-in-None g c = λ slip table used pending m. none_text m (omega (arith, c.if-cursor-gt0.false)) c.in-None.ensures
+pub returns-else-is_some : goal.returns-else-is_some
+returns-else-is_some g c = λ table pending m.
+    c.is_some-else-is_some.ensures ∙ ap is_some c.byte.ensures ∙ text_more c.args.cursor.now.inside (sym c.is_some.ensures ∙ c.if-is_some.false) m
