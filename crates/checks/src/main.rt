@@ -5,131 +5,115 @@
 use boards::boards::Board;
 use checker::check;
 use hexadecimal::decode;
-use slips::faults::CheckFault;
+use notation::OrDash;
 use std::alloc::{AllocError, Global};
 use stores::lent::Lent;
 use stores::piles::Pile;
 use stores::rulebooks::{Image, RuleBook};
 use stores::stores::Store;
 
-fn refused(heap: Global, fault: CheckFault) -> Result<String, AllocError> {
-    let number = fault.number();
-    let place = fault.place();
-    let layer = fault.layer();
-    match fault.steps() {
-        Some(steps) => format!(in heap; "refused,{number},{place},{layer},{steps}"),
-        None => format!(in heap; "refused,{number},{place},{layer},-"),
+// Why a line has no verdict.
+#[derive(Drop)]
+enum Failure {
+    // it is no case
+    Unknown,
+    Memory(AllocError),
+}
+
+impl From<AllocError> for Failure {
+    fn from(e: AllocError) -> Failure {
+        Failure::Memory(e)
     }
 }
 
-// Checks by one store.
-fn verdict<S: Store>(
-    heap: Global,
-    store: &S,
-    query: &[u8],
-    slip: &[u8],
-) -> Result<String, AllocError> {
-    match check(store, query, slip) {
-        Ok(()) => String::from_str(heap, "passed"),
-        Err(fault) => refused(heap, fault),
-    }
+// The bytes that the digits spell.
+fn bytes(heap: Global, digits: &str) -> Result<Vec<u8>, Failure> {
+    decode(heap, digits.as_bytes())?.ok_or(Failure::Unknown)
 }
 
-// The bytes of the rules as a book; none where digits are wrong.
-fn book_of(heap: Global, rules: &str) -> Result<Option<Vec<u8>>, AllocError> {
+// The bytes of the rules as a book.
+fn book_of(heap: Global, rules: &str) -> Result<Vec<u8>, Failure> {
     let mut digits = String::new(heap);
     for rule in rules.split(',') {
         digits.push_str(rule)?;
     }
-    decode(heap, digits.as_str().as_bytes())
+    bytes(heap, digits.as_str())
 }
 
-// A board with these rules; none where one of them is refused.
-fn board_of(heap: Global, rules: &str) -> Result<Option<Board>, AllocError> {
+// A board with these rules.
+fn board_of(heap: Global, rules: &str) -> Result<Board, Failure> {
     let mut board = Board::new();
     for digits in rules.split(',') {
-        let Some(rule) = decode(heap, digits.as_bytes())? else {
-            return Ok(None);
-        };
-        if board.add(rule.as_slice()).is_err() {
-            return Ok(None);
+        let rule = bytes(heap, digits)?;
+        board.add(rule.as_slice()).map_err(|_| Failure::Unknown)?;
+    }
+    Ok(board)
+}
+
+// A slip and the query that it is for.
+#[derive(Drop)]
+struct Case {
+    query: Vec<u8>,
+    slip: Vec<u8>,
+}
+
+impl Case {
+    fn parse(heap: Global, text: &str) -> Result<Case, Failure> {
+        let (query, slip) = text.split_once(' ').ok_or(Failure::Unknown)?;
+        let query = bytes(heap, query)?;
+        let slip = bytes(heap, slip)?;
+        Ok(Case { query, slip })
+    }
+
+    // What comes of it by one store, as `verify` prints it: a library for these lines would be longer.
+    fn verdict<S: Store>(&self, heap: Global, store: &S) -> Result<String, Failure> {
+        match check(store, self.query.as_slice(), self.slip.as_slice()) {
+            Ok(()) => Ok(String::from_str(heap, "passed")?),
+            Err(fault) => {
+                let steps = OrDash(fault.steps());
+                Ok(format!(in heap; "refused,{fault},{steps}")?)
+            }
         }
     }
-    Ok(Some(board))
-}
 
-fn unknown(heap: Global) -> Result<String, AllocError> {
-    String::from_str(heap, "unknown")
-}
+    fn by_book(&self, heap: Global, rules: &str) -> Result<String, Failure> {
+        let bytes = book_of(heap, rules)?;
+        let image = Image::new(bytes.as_slice());
+        let book = RuleBook::open(&image).map_err(|_| Failure::Unknown)?;
+        self.verdict(heap, &book)
+    }
 
-fn by_book(heap: Global, rules: &str, query: &[u8], slip: &[u8]) -> Result<String, AllocError> {
-    let Some(bytes) = book_of(heap, rules)? else {
-        return unknown(heap);
-    };
-    let image = Image::new(bytes.as_slice());
-    match RuleBook::open(&image) {
-        Ok(store) => verdict(heap, &store, query, slip),
-        Err(_) => unknown(heap),
+    fn by_pile(&self, heap: Global, rules: &str) -> Result<String, Failure> {
+        let (upper, lower) = rules.split_once('/').ok_or(Failure::Unknown)?;
+        let board = board_of(heap, upper)?;
+        let bytes = book_of(heap, lower)?;
+        let image = Image::new(bytes.as_slice());
+        let book = RuleBook::open(&image).map_err(|_| Failure::Unknown)?;
+        self.verdict(heap, &Pile::new(Lent::new(&board), Lent::new(&book)))
     }
 }
 
-fn by_board(heap: Global, rules: &str, query: &[u8], slip: &[u8]) -> Result<String, AllocError> {
-    let Some(board) = board_of(heap, rules)? else {
-        return unknown(heap);
-    };
-    verdict(heap, &board, query, slip)
-}
-
-fn by_pile(heap: Global, rules: &str, query: &[u8], slip: &[u8]) -> Result<String, AllocError> {
-    let Some((upper, lower)) = rules.split_once('/') else {
-        return unknown(heap);
-    };
-    let Some(board) = board_of(heap, upper)? else {
-        return unknown(heap);
-    };
-    let Some(bytes) = book_of(heap, lower)? else {
-        return unknown(heap);
-    };
-    let image = Image::new(bytes.as_slice());
-    match RuleBook::open(&image) {
-        Ok(book) => verdict(
-            heap,
-            &Pile::new(Lent::new(&board), Lent::new(&book)),
-            query,
-            slip,
-        ),
-        Err(_) => unknown(heap),
-    }
-}
-
-fn case_line(heap: Global, line: &str) -> Result<String, AllocError> {
-    let Some((kind, rest)) = line.split_once(' ') else {
-        return unknown(heap);
-    };
-    let Some((rules, rest)) = rest.split_once(' ') else {
-        return unknown(heap);
-    };
-    let Some((query, slip)) = rest.split_once(' ') else {
-        return unknown(heap);
-    };
-    let Some(query) = decode(heap, query.as_bytes())? else {
-        return unknown(heap);
-    };
-    let Some(slip) = decode(heap, slip.as_bytes())? else {
-        return unknown(heap);
-    };
+// A kind of store is named by a word of the line, and these kinds are closed.
+fn case_line(heap: Global, line: &str) -> Result<String, Failure> {
+    let (kind, rest) = line.split_once(' ').ok_or(Failure::Unknown)?;
+    let (rules, rest) = rest.split_once(' ').ok_or(Failure::Unknown)?;
+    let case = Case::parse(heap, rest)?;
     match kind {
-        "book" => by_book(heap, rules, query.as_slice(), slip.as_slice()),
-        "board" => by_board(heap, rules, query.as_slice(), slip.as_slice()),
-        "pile" => by_pile(heap, rules, query.as_slice(), slip.as_slice()),
-        _ => unknown(heap),
+        "book" => case.by_book(heap, rules),
+        "board" => case.verdict(heap, &board_of(heap, rules)?),
+        "pile" => case.by_pile(heap, rules),
+        _ => Err(Failure::Unknown),
     }
 }
 
 fn main(rt: HostRuntime) -> anyhow::Result<()> {
     let heap = rt.alloc();
     for line in rt.lines(heap) {
-        rt.println(case_line(heap, line?.as_str())?)?;
+        match case_line(heap, line?.as_str()) {
+            Ok(text) => rt.println(text)?,
+            Err(Failure::Unknown) => println!(rt; "unknown")?,
+            Err(Failure::Memory(e)) => return Err(e.into()),
+        }
     }
     Ok(())
 }

@@ -1,7 +1,8 @@
 // The lines that are printed.
-use crate::notation;
 use grammar::faults::BookFault;
+use notation::InRule;
 use reading::books::Item;
+use reading::rules::Rule;
 use std::alloc::{AllocError, Global};
 
 // An item after so many rules, in this world.
@@ -14,23 +15,21 @@ pub(crate) fn item_line(
     match item {
         Item::World { number, place } => format!(in heap; "world,{number},{place}"),
         Item::Rule(rule) => {
-            let place = rule.place;
-            let variables = rule.variables;
-            let goals = rule.goals;
-            let text = notation::rule(heap, rule)?;
+            let Rule {
+                place,
+                variables,
+                goals,
+                ..
+            } = *rule;
+            let text = notation::Rule(*rule);
             format!(in heap; "rule,{rules},{world},{place},{variables},{goals},{text}")
         }
     }
 }
 
 pub(crate) fn refused_line(heap: Global, fault: BookFault) -> Result<String, AllocError> {
-    let number = fault.number();
-    let place = fault.place();
-    let layer = fault.layer();
-    match fault.rule() {
-        Some(rule) => format!(in heap; "refused,{number},{place},{layer},{rule}"),
-        None => format!(in heap; "refused,{number},{place},{layer},-"),
-    }
+    let fault = InRule(fault);
+    format!(in heap; "refused,{fault}")
 }
 
 // The world that covers what comes after an item.

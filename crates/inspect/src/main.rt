@@ -2,7 +2,6 @@
 #![tactic(auto)]
 
 mod lines;
-mod notation;
 
 use lines::{item_line, refused_line, world_after};
 use reading::books::Book;
@@ -32,10 +31,7 @@ fn inspect(rt: &HostRuntime, bytes: &[u8]) -> anyhow::Result<()> {
 
 fn main(rt: HostRuntime) -> anyhow::Result<()> {
     // A file that cannot be read counts as empty.
-    let bytes = match fs::read(&rt, "book.bin") {
-        Ok(bytes) => bytes,
-        Err(_) => Vec::new(rt.alloc()),
-    };
+    let bytes = fs::read(&rt, "book.bin").unwrap_or_else(|_| Vec::new(rt.alloc()));
     inspect(&rt, bytes.as_slice())
 }
 

@@ -2,35 +2,27 @@
 // number, the place and the layer of its fault. A line has the bytes of two facts in hexadecimal, `|` between them.
 #![tactic(auto)]
 
-mod notation;
-
-use machine::facts::{Unified, unify_facts};
+use machine::facts::{FactsFault, unify_facts};
 use std::alloc::Global;
 use std::fs;
 
 fn bytes(heap: Global, words: &str) -> anyhow::Result<Vec<u8>> {
-    let mut bytes = Vec::new(heap);
-    for word in words.split_whitespace() {
-        bytes.push(u8::from_str_radix(word, 16)?)?;
-    }
-    Ok(bytes)
+    words
+        .split_whitespace()
+        .map(|word| -> anyhow::Result<u8> { Ok(u8::from_str_radix(word, 16)?) })
+        .try_collect(heap)
 }
 
 fn print_pair(rt: &HostRuntime, left: &[u8], right: &[u8]) -> anyhow::Result<()> {
     let mut buffer = [0u8; 512];
     match unify_facts(left, right, &mut buffer) {
-        Ok(Unified::Yes(_)) => {
-            let term = notation::term(rt.alloc(), &buffer)?;
+        Ok(Some(_)) => {
+            let term = notation::Term(&buffer);
             println!(rt; "{term}")?;
         }
-        Ok(Unified::No) => println!(rt; "no")?,
-        Ok(Unified::Long) => println!(rt; "long")?,
-        Err(fault) => {
-            let number = fault.number();
-            let place = fault.place();
-            let layer = fault.layer();
-            println!(rt; "refused,{number},{place},{layer}")?;
-        }
+        Ok(None) => println!(rt; "no")?,
+        Err(FactsFault::NoRoom) => println!(rt; "long")?,
+        Err(FactsFault::Reading(fault)) => println!(rt; "refused,{fault}")?,
     }
     Ok(())
 }

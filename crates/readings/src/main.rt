@@ -1,40 +1,26 @@
 // Reads the books, rules and queries that standard input has in hexadecimal, a line each, and prints what came of it.
 #![tactic(auto)]
 
-use grammar::faults::{BookFault, SingleFault};
 use hexadecimal::{decode, encode};
+use notation::InRule;
 use reading::books::count_rules;
 use reading::rules::{read_query, read_rule};
 use std::alloc::{AllocError, Global};
 
-fn single_fault(heap: Global, fault: SingleFault) -> Result<String, AllocError> {
-    let number = fault.number();
-    let place = fault.place();
-    let layer = fault.layer();
-    format!(in heap; "refused,{number},{place},{layer}")
-}
-
-fn book_fault(heap: Global, fault: BookFault) -> Result<String, AllocError> {
-    let number = fault.number();
-    let place = fault.place();
-    let layer = fault.layer();
-    match fault.rule() {
-        Some(rule) => format!(in heap; "refused,{number},{place},{layer},{rule}"),
-        None => format!(in heap; "refused,{number},{place},{layer},-"),
-    }
-}
-
 fn book_line(heap: Global, bytes: &[u8]) -> Result<String, AllocError> {
     match count_rules(bytes) {
         Ok(rules) => format!(in heap; "book,{rules}"),
-        Err(fault) => book_fault(heap, fault),
+        Err(fault) => {
+            let fault = InRule(fault);
+            format!(in heap; "refused,{fault}")
+        }
     }
 }
 
 fn rule_line(heap: Global, bytes: &[u8]) -> Result<String, AllocError> {
     let rule = match read_rule(bytes) {
         Ok(rule) => rule,
-        Err(fault) => return single_fault(heap, fault),
+        Err(fault) => return format!(in heap; "refused,{fault}"),
     };
     let variables = rule.variables;
     let goals = rule.goals;
@@ -47,7 +33,7 @@ fn rule_line(heap: Global, bytes: &[u8]) -> Result<String, AllocError> {
 fn query_line(heap: Global, bytes: &[u8]) -> Result<String, AllocError> {
     let query = match read_query(bytes) {
         Ok(query) => query,
-        Err(fault) => return single_fault(heap, fault),
+        Err(fault) => return format!(in heap; "refused,{fault}"),
     };
     let variables = query.variables;
     let goals = query.goals;
@@ -55,6 +41,7 @@ fn query_line(heap: Global, bytes: &[u8]) -> Result<String, AllocError> {
     format!(in heap; "query,{variables},{goals},{body}")
 }
 
+// What is read is named by a word of the line, and these kinds are closed.
 fn case_line(heap: Global, line: &str) -> Result<String, AllocError> {
     let Some((kind, digits)) = line.split_once(' ') else {
         return String::from_str(heap, "unknown");

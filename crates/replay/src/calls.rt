@@ -2,7 +2,7 @@
 use engine::slots::{Reply, Request, Slot};
 use std::alloc::{AllocError, Global};
 
-// what fills a buffer before it is written to
+// what fills a buffer before it is written to; `shelve` shows its buffers so too, and a library for one byte would be longer
 const FILLER: u8 = 0xEE;
 
 // A call, and how many bytes its buffer has.
@@ -12,32 +12,20 @@ pub(crate) struct Call {
     room: usize,
 }
 
+// The call of a line that has an operand: an allowance, or the room of a buffer. The calls are named by words, a closed set.
 fn with_operand(line: &str) -> Option<Call> {
     let (name, operand) = line.split_once(' ')?;
-    match name {
+    let request = match name {
         "next" => {
-            let allowance = operand.parse::<u32>().ok()?;
-            Some(Call {
-                request: Request::Next(allowance),
-                room: 0,
-            })
+            let request = Request::Next(operand.parse().ok()?);
+            return Some(Call { request, room: 0 });
         }
-        "answer" => {
-            let room = operand.parse::<usize>().ok()?;
-            Some(Call {
-                request: Request::Answer,
-                room,
-            })
-        }
-        "slip" => {
-            let room = operand.parse::<usize>().ok()?;
-            Some(Call {
-                request: Request::Slip,
-                room,
-            })
-        }
-        _ => None,
-    }
+        "answer" => Request::Answer,
+        "slip" => Request::Slip,
+        _ => return None,
+    };
+    let room = operand.parse().ok()?;
+    Some(Call { request, room })
 }
 
 // The call of a line; none where it is no call.

@@ -1,66 +1,31 @@
 // The lines that are printed.
 use engine::slots::{Reply, Request, Slot};
-use grammar::faults::BookFault;
 use hexadecimal::encode;
-use resolution::{Outcome, Refusal, Stop, Tally, Word};
-use slips::faults::{OpeningFault, WriteRefusal};
+use resolution::{Outcome, Refusal, Tally};
+use slips::faults::WriteRefusal;
 use std::alloc::{AllocError, Global};
-
-pub(crate) fn refused_book(heap: Global, fault: BookFault) -> Result<String, AllocError> {
-    let number = fault.number();
-    let place = fault.place();
-    let layer = fault.layer();
-    format!(in heap; "refused,{number},{place},{layer}")
-}
-
-// A search that is not opened.
-pub(crate) fn refused(heap: Global, fault: OpeningFault) -> Result<String, AllocError> {
-    let number = fault.number();
-    match (fault.place(), fault.layer()) {
-        (Some(place), Some(layer)) => format!(in heap; "refused,{number},{place},{layer}"),
-        _ => format!(in heap; "refused,{number},-,-"),
-    }
-}
-
-fn word_text(word: Word) -> &'static str {
-    match word {
-        Word::Answer => "answer",
-        Word::Spent => "spent",
-        Word::Stopped(Stop::Deep) => "deep",
-        Word::Stopped(Stop::Cells) => "cells",
-        Word::NoMore => "none",
-    }
-}
 
 fn next_line(heap: Global, returned: Result<Outcome, Refusal>) -> Result<String, AllocError> {
     match returned {
-        Ok(outcome) => {
-            let word = word_text(outcome.word);
-            let tries = outcome.tries;
-            format!(in heap; "next,{word},{tries}")
-        }
-        Err(refusal) => {
-            let number = refusal.number();
-            format!(in heap; "next,refused,{number}")
-        }
+        Ok(Outcome { word, tries }) => format!(in heap; "next,{word},{tries}"),
+        Err(refusal) => format!(in heap; "next,refused,{refusal}"),
     }
 }
 
 fn tally_line(heap: Global, tally: Tally) -> Result<String, AllocError> {
-    let tries = tally.tries;
-    let answers = tally.answers;
-    let steps = tally.steps;
-    let cells = tally.cells;
+    let Tally {
+        tries,
+        answers,
+        steps,
+        cells,
+    } = tally;
     format!(in heap; "tally,{tries},{answers},{steps},{cells}")
 }
 
 fn hold_line(heap: Global, returned: Result<(), WriteRefusal>) -> Result<String, AllocError> {
     match returned {
         Ok(()) => String::from_str(heap, "hold,ok"),
-        Err(fault) => {
-            let number = fault.number();
-            format!(in heap; "hold,refused,{number}")
-        }
+        Err(refusal) => format!(in heap; "hold,refused,{refusal}"),
     }
 }
 
@@ -74,14 +39,11 @@ fn written_line(
     let digits = encode(heap, buffer)?;
     match returned {
         Ok(length) => format!(in heap; "{name},{length},{digits}"),
-        Err(fault) => {
-            let number = fault.number();
-            format!(in heap; "{name},refused,{number},{digits}")
-        }
+        Err(refusal) => format!(in heap; "{name},refused,{refusal},{digits}"),
     }
 }
 
-// What a call returned.
+// What a call returned. The calls are a closed set.
 pub(crate) fn reply_line(heap: Global, slot: &Slot) -> Result<String, AllocError> {
     match slot.reply {
         Reply::Open => String::from_str(heap, "open"),

@@ -7,16 +7,13 @@ mod lines;
 
 use calls::{parse, slot};
 use engine::runs::run;
-use lines::{refused, refused_book, reply_line};
+use lines::reply_line;
 use std::fs;
 use stores::rulebooks::{Image, RuleBook};
 
-// The bytes of a file; one that cannot be read counts as empty.
+// The bytes of a file; one that cannot be read counts as empty. `verify` has this line too: a library for it would be longer.
 fn file(rt: &HostRuntime, name: &str) -> Vec<u8> {
-    match fs::read(rt, name) {
-        Ok(bytes) => bytes,
-        Err(_) => Vec::new(rt.alloc()),
-    }
+    fs::read(rt, name).unwrap_or_else(|_| Vec::new(rt.alloc()))
 }
 
 // A line for each line of the text. No slip is brought along to be checked.
@@ -30,7 +27,7 @@ fn replay(rt: &HostRuntime, book: &RuleBook, query: &[u8], text: &str) -> anyhow
     }
     let report = run(book, query, slots.as_mut_slice(), book, &[]);
     if let Err(fault) = report.opening {
-        return Ok(rt.println(refused(heap, fault)?)?);
+        return Ok(println!(rt; "refused,{fault}")?);
     }
     let mut carried_out = slots.iter();
     for line in text.lines() {
@@ -50,13 +47,10 @@ fn main(rt: HostRuntime) -> anyhow::Result<()> {
     let heap = rt.alloc();
     let bytes = file(&rt, "book.bin");
     let query = file(&rt, "query.bin");
-    let text = match fs::read_to_string(&rt, "calls.txt") {
-        Ok(text) => text,
-        Err(_) => String::new(heap),
-    };
+    let text = fs::read_to_string(&rt, "calls.txt").unwrap_or_else(|_| String::new(heap));
     let image = Image::new(bytes.as_slice());
     match RuleBook::open(&image) {
         Ok(book) => replay(&rt, &book, query.as_slice(), text.as_str()),
-        Err(fault) => Ok(rt.println(refused_book(heap, fault)?)?),
+        Err(fault) => Ok(println!(rt; "refused,{fault}")?),
     }
 }

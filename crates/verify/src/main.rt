@@ -2,48 +2,30 @@
 #![tactic(auto)]
 
 use checker::check;
-use grammar::faults::BookFault;
-use slips::faults::CheckFault;
+use notation::OrDash;
 use std::alloc::{AllocError, Global};
 use std::fs;
 use stores::rulebooks::{Image, RuleBook};
 
-// A book that is refused has no steps.
-fn refused_book(heap: Global, fault: BookFault) -> Result<String, AllocError> {
-    let number = fault.number();
-    let place = fault.place();
-    let layer = fault.layer();
-    format!(in heap; "refused,{number},{place},{layer},-")
-}
-
-fn refused(heap: Global, fault: CheckFault) -> Result<String, AllocError> {
-    let number = fault.number();
-    let place = fault.place();
-    let layer = fault.layer();
-    match fault.steps() {
-        Some(steps) => format!(in heap; "refused,{number},{place},{layer},{steps}"),
-        None => format!(in heap; "refused,{number},{place},{layer},-"),
-    }
-}
-
+// What comes of the slip. A book that is refused has no steps.
 fn verdict(heap: Global, book: &[u8], query: &[u8], slip: &[u8]) -> Result<String, AllocError> {
     let image = Image::new(book);
     let store = match RuleBook::open(&image) {
         Ok(store) => store,
-        Err(fault) => return refused_book(heap, fault),
+        Err(fault) => return format!(in heap; "refused,{fault},-"),
     };
     match check(&store, query, slip) {
         Ok(()) => String::from_str(heap, "passed"),
-        Err(fault) => refused(heap, fault),
+        Err(fault) => {
+            let steps = OrDash(fault.steps());
+            format!(in heap; "refused,{fault},{steps}")
+        }
     }
 }
 
-// The bytes of a file; one that cannot be read counts as empty.
+// The bytes of a file; one that cannot be read counts as empty. `replay` has this line too: a library for it would be longer.
 fn file(rt: &HostRuntime, name: &str) -> Vec<u8> {
-    match fs::read(rt, name) {
-        Ok(bytes) => bytes,
-        Err(_) => Vec::new(rt.alloc()),
-    }
+    fs::read(rt, name).unwrap_or_else(|_| Vec::new(rt.alloc()))
 }
 
 fn main(rt: HostRuntime) -> anyhow::Result<()> {

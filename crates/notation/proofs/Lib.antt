@@ -1,0 +1,4 @@
+pub mod Taking
+pub mod Writing
+pub mod Shown
+pub mod Examples

@@ -1,0 +1,5 @@
+pub mod Notation
+pub mod Examples
+pub mod Commands
+pub mod Writing
+pub mod Laws
