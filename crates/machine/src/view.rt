@@ -30,14 +30,11 @@ impl View<'_> {
         let mut at = term;
         'looking: loop {
             let place = at.place as usize;
-            let tag = text[place];
-            if tag == ATOM {
-                return Shape::Atom(u16::from_be_bytes([text[place + 1], text[place + 2]]));
-            }
-            if tag != VARIABLE {
-                return Shape::Pair(at);
-            }
-            let cell = at.level + u16::from(text[place + 1]);
+            let cell = match text[place] {
+                ATOM => return Shape::Atom(u16::from_be_bytes([text[place + 1], text[place + 2]])),
+                VARIABLE => at.level + u16::from(text[place + 1]),
+                _ => return Shape::Pair(at),
+            };
             match self.cells[cell as usize] {
                 Some(binding) => at = binding.term,
                 None => return Shape::Open(cell),

@@ -2,7 +2,7 @@
 #![tactic(auto)]
 
 use checker::check;
-use notation::OrDash;
+use checker::verdicts::Verdict;
 use std::alloc::{AllocError, Global};
 use std::fs;
 use stores::rulebooks::{Image, RuleBook};
@@ -14,13 +14,7 @@ fn verdict(heap: Global, book: &[u8], query: &[u8], slip: &[u8]) -> Result<Strin
         Ok(store) => store,
         Err(fault) => return format!(in heap; "refused,{fault},-"),
     };
-    match check(&store, query, slip) {
-        Ok(()) => String::from_str(heap, "passed"),
-        Err(fault) => {
-            let steps = OrDash(fault.steps());
-            format!(in heap; "refused,{fault},{steps}")
-        }
-    }
+    Verdict(check(&store, query, slip)).to_string(heap)
 }
 
 // The bytes of a file; one that cannot be read counts as empty. `replay` has this line too: a library for it would be longer.
