@@ -33,7 +33,8 @@ impl From<SingleFault> for FactsFault {
     }
 }
 
-// Tables over a goal's bytes, with so many variables, and a head's bytes after them.
+// Tables over a goal's bytes, with so many variables, and a head's bytes after them. `Machine::open` makes its tables so too; the
+// contract of a function for both would be those of `Cells::new` and `Branch::new` again.
 fn load(goal: &[u8], variables: u8, head: &[u8]) -> Tables
     requires { length goal.now + length head.now ≤ 16384 }
     ensures text { result.text.bytes ≡ goal.now ++ head.now }

@@ -66,7 +66,7 @@ impl Text {
         term_end(self.as_slice(), place)
     }
 
-    // The rest of a pair.
+    // The rest of a pair. It uses the bytes, and not `end`: a text tells its bound where its bytes are used.
     pub(crate) fn rest(&self, pair: TermAt) -> TermAt
         requires { (t : Term) × (q : ℕ) × Spans self.now.bytes (pair.place + 1) t q }
         ensures place { (t : Term) (q : ℕ) → Spans self.now.bytes (pair.place + 1) t q → result.place ≡ q }

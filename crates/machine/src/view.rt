@@ -21,7 +21,8 @@ pub(crate) struct View<'a> {
 impl View<'_> {
     ghost use Rattle.machine.specs.Views.{SeenOver, seen_as};
 
-    // The form of a term: bound cells are looked up.
+    // The form of a term: bound cells are looked up. That a term stands under the view is asked here, in the occurs check and in
+    // writing: a struct of the two would be made anew for each part of a term.
     pub(crate) fn shape(&self, term: TermAt) -> Shape
         requires { SeenOver self.now term }
         ensures { Shows self.now.text.now.bytes self.now.used self.now.cells.now self.now.newest (seen_as self.now term) result }
