@@ -5,6 +5,7 @@ pub mod faults;
 pub mod laws;
 pub mod limits;
 pub mod rows;
+pub mod tables;
 
 ghost use Rattle.std.specs.Prelude.{◌≡◌, IfOk};
 ghost use Rattle.std.specs.Iterator.{YieldsFirst, item_count};

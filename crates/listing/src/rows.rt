@@ -8,9 +8,6 @@ use machine::numbers::Numbers;
 use resolution::{Outcome, Word};
 use std::fmt;
 
-// The heading over them.
-pub const HEADING: &str = "word,tries,steps";
-
 #[derive(Drop)]
 pub enum Row {
     // what a call said, and of an answer the rule numbers of its steps

@@ -1,9 +1,8 @@
-// Prints the listing of each book and query that standard input has in hexadecimal, one of each on a line.
+// Lists what comes of each book and query that standard input has in hexadecimal, one of each on a line, as `locate` does.
 #![tactic(auto)]
 
 use hexadecimal::decode;
-use listing::Listing;
-use listing::rows::HEADING;
+use listing::tables::Table;
 use std::alloc::{AllocError, Global};
 
 #[derive(Drop)]
@@ -27,13 +26,11 @@ impl Case {
         Ok(Some(Case { book, query }))
     }
 
-    // Prints the heading and the rows, as `locate` does.
-    fn list(&self, rt: &HostRuntime) -> anyhow::Result<()> {
-        rt.println(HEADING)?;
-        for row in Listing::open(self.book.as_slice(), self.query.as_slice()) {
-            rt.println(row)?;
+    fn table(&self) -> Table<'_> {
+        Table {
+            book: self.book.as_slice(),
+            query: self.query.as_slice(),
         }
-        Ok(())
     }
 }
 
@@ -41,7 +38,7 @@ fn main(rt: HostRuntime) -> anyhow::Result<()> {
     let heap = rt.alloc();
     for line in rt.lines(heap) {
         match Case::parse(heap, line?.as_str())? {
-            Some(case) => case.list(&rt)?,
+            Some(case) => rt.print(case.table())?,
             None => println!(rt; "unknown")?,
         }
     }

@@ -1,8 +1,7 @@
-// Lists what comes of the query in `query.bin` over the book in `book.bin`: a row for each call of next.
+// Lists what comes of the query in `query.bin` over the book in `book.bin`: a heading, and a row for each call of next.
 #![tactic(auto)]
 
-use listing::Listing;
-use listing::rows::HEADING;
+use listing::tables::Table;
 use std::fs;
 
 // The bytes of a file; one that cannot be read counts as empty. `verify` has this line too: a library for it would be longer.
@@ -13,9 +12,9 @@ fn file(rt: &HostRuntime, name: &str) -> Vec<u8> {
 fn main(rt: HostRuntime) -> anyhow::Result<()> {
     let book = file(&rt, "book.bin");
     let query = file(&rt, "query.bin");
-    rt.println(HEADING)?;
-    for row in Listing::open(book.as_slice(), query.as_slice()) {
-        rt.println(row)?;
-    }
+    rt.print(Table {
+        book: book.as_slice(),
+        query: query.as_slice(),
+    })?;
     Ok(())
 }

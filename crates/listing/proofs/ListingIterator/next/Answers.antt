@@ -28,30 +28,25 @@ gave c =
           (ap (λ (l : Listing). l.calls) w.self-is, gives_as c.in_ok-self.field-0 w.in-Err.is w.row-is (ap (λ (l : Listing). l.search) w.self-is) refl)
     ]
 
--- What comes after it.
-others : (c : Joined-is_last) → cond (last c.match-self.row) [] (rows_with c.in_ok-self.field-0 c.match-self.self.search) ≡ rows_left c.if-is_last.self
-others c =
+pub returns-in_err-self-clause-steps : goal.returns-in_err-self-clause-steps
+returns-in_err-self-clause-steps c =
+    let none = none_left c.args.self.now.calls c.args.self.now.search (omega (arith, c.in_err-self.ensures)) in
+    subst (λ (r : Option Row). YieldsFirst rows_left c.args.self.now r c.args.self.now) (sym c.from_residual.ensures) (none, none)
+
+-- The others come after it, unless it is the last.
+pub returns-clause-steps : goal.returns-clause-steps
+returns-clause-steps c =
+    let n : c.args.self.now.calls ≡ suc c.in_ok-self.field-0 = omega (arith, c.in_ok-self.ensures) in
+    let others : cond (last c.match-self.row) [] (rows_with c.in_ok-self.field-0 c.match-self.self.search) ≡ rows_left c.if-is_last.self =
     elim c.if-is_last.branch [
       | then-is_last w ↦
           (ap (λ (b : Bool). cond b [] (rows_with c.in_ok-self.field-0 c.match-self.self.search)) (sym c.is_last.ensures ∙ w.if-is_last.true)
           ∙ sym (none_left 0 c.match-self.self.search refl) ∙ ap rows_left (sym w.self-is))
       | else-is_last w ↦
           (ap (λ (b : Bool). cond b [] (rows_with c.in_ok-self.field-0 c.match-self.self.search)) (sym c.is_last.ensures ∙ w.if-is_last.false)
-          ∙ ap (λ (n : ℕ). rows_with n c.match-self.self.search) (sym (gave c).0) ∙ ap rows_left (sym w.self-is))
-    ]
-
-first : (c : Joined-is_last) → rows_left c.args.self.now ≡ c.match-self.row ∷ rows_left c.if-is_last.self
-first c =
-    let n : c.args.self.now.calls ≡ suc c.in_ok-self.field-0 = omega (arith, c.in_ok-self.ensures) in
-    ap (λ (k : ℕ). rows_with k c.args.self.now.search) n ∙ (gave c).1 ∙ ap (λ (rs : List Row). c.match-self.row ∷ rs) (others c)
-
-pub returns-in_err-self-clause-steps : goal.returns-in_err-self-clause-steps
-returns-in_err-self-clause-steps c =
-    let none = none_left c.args.self.now.calls c.args.self.now.search (omega (arith, c.in_err-self.ensures)) in
-    subst (λ (r : Option Row). YieldsFirst rows_left c.args.self.now r c.args.self.now) (sym c.from_residual.ensures) (none, none)
-
-pub returns-clause-steps : goal.returns-clause-steps
-returns-clause-steps c = first c
+          ∙ ap (λ (k : ℕ). rows_with k c.match-self.self.search) (sym (gave c).0) ∙ ap rows_left (sym w.self-is))
+    ] in
+    ap (λ (k : ℕ). rows_with k c.args.self.now.search) n ∙ (gave c).1 ∙ ap (λ (rs : List Row). c.match-self.row ∷ rs) others
 
 pub returns-clause-goes : goal.returns-clause-goes
-returns-clause-goes c = let shorter = ap length (first c) in search rules
+returns-clause-goes c = let shorter = ap length (returns-clause-steps c) in search rules
