@@ -50,7 +50,7 @@ fn numbers(search: &Search) -> Result<Numbers, Fault>
 {
     let answer = search.hold()?;
     let mut slip = [0; SLIP_ROOM];
-    let _length = answer.slip(&mut slip)?;
+    answer.slip(&mut slip)?;
     Ok(answer.numbers())
 }
 
