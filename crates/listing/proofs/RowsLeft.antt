@@ -1,5 +1,5 @@
 -- The rows that a listing still has, one by one. Assumes nothing.
-use Rattle.std.proofs.Common.{◌≡◌, ℕ, zero, suc, true, false, cond, List, [], ◌∷◌, Ok, Err, Result, sym, refl, ap, ◌∙◌, arith}
+use Rattle.std.proofs.Common.{◌≡◌, ℕ, zero, suc, cond, List, [], ◌∷◌, Ok, Err, Result, sym, refl, ap, ◌∙◌, arith}
 use Rattle.terms.specs.Terms.{Rule, Query}
 use Rattle.resolution.specs.Search.{Search as Defined, next}
 use Rattle.engine.specs.declared.search.Search.{Search}

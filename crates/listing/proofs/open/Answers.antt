@@ -1,4 +1,4 @@
-use Rattle.std.proofs.Common.{◌≡◌, List, ℕ, Ok, Err, Result, sym, refl, ap, ◌∙◌}
+use Rattle.std.proofs.Common.{◌≡◌, List, ℕ, Ok, Err, Result, ap, ◌∙◌}
 use Rattle.std.proofs.lemmas.Result.{err_from_is_err_and}
 use Rattle.grammar.specs.declared.faults.BookFault.{BookFault}
 use Rattle.grammar.specs.Asking.{go}
@@ -8,7 +8,6 @@ use Rattle.reading.specs.Views.{seen}
 use Rattle.slips.specs.declared.faults.OpeningFault.{OpeningFault}
 use Rattle.slips.specs.Opening.{Opened, opening as opening_over}
 use Rattle.engine.specs.Models.{opened_with}
-use Rattle.listing.specs.declared.faults.Fault.{Fault}
 use Rattle.listing.specs.declared.faults.Fault.TheVariants.{Book, Opening}
 use Rattle.listing.specs.Listings.{opening}
 use Rattle.listing.proofs.open.Goals as goal

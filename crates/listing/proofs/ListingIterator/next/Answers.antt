@@ -1,4 +1,4 @@
-use Rattle.std.proofs.Common.{◌≡◌, ℕ, suc, Bool, cond, List, [], ◌∷◌, length, Ok, Err, Option, refl, sym, ap, ◌∙◌, subst, arith, rules}
+use Rattle.std.proofs.Common.{◌≡◌, ℕ, suc, Bool, cond, List, [], ◌∷◌, length, Option, refl, sym, ap, ◌∙◌, subst, arith, rules}
 use Rattle.std.specs.Iterator.{YieldsFirst}
 use Rattle.listing.specs.declared.Listing.{Listing}
 use Rattle.listing.specs.declared.rows.Row.{Row}

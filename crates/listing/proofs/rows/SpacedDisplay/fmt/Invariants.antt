@@ -1,5 +1,5 @@
-use Rattle.std.proofs.Common.{◌++◌, take}
-use Rattle.std.specs.Fmt.{HasWritten, IsPlainFormatter, decimal}
+use Rattle.std.proofs.Common.{take}
+use Rattle.std.specs.Fmt.{HasWritten, IsPlainFormatter}
 use Rattle.std.specs.List.{flat_map}
 use Rattle.listing.specs.Printed.{after_space}
 use Rattle.listing.proofs.rows.SpacedDisplay.fmt.Given as goal
