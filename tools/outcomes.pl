@@ -24,6 +24,8 @@ most_cells(2048).
 most_tries(50000).
 most_answers(40).
 most_slip(20000).
+% the atoms, pairs and variables of a goal when it is written out; steps can double them
+most_parts(5000).
 
 % ── bytes ──
 
@@ -74,9 +76,23 @@ tries_since(Tries) :- nb_getval(tries, Tries), nb_setval(tries, 0).
 
 keep_within(Number, Most, Word) :- ( Number > Most -> throw(end(Word)) ; true ).
 
+% how many parts are left of so many after those of the term; none may be short
+parts_left(Term, Before, After) :- var(Term), !, Before > 0, After is Before - 1.
+parts_left(a(_), Before, After) :- Before > 0, After is Before - 1.
+parts_left(p(First, Rest), Before, After) :-
+    Before > 0,
+    Inside is Before - 1,
+    parts_left(First, Inside, Between),
+    parts_left(Rest, Between, After).
+
+keep_small(Goal) :-
+    most_parts(Most),
+    ( acyclic_term(Goal), \+ parts_left(Goal, Most, _) -> throw(end(too_long)) ; true ).
+
 % the steps, newest first, that prove all the goals, leftmost first, by rules in the order of their numbers
 branch([], _, _, _, Steps, Steps).
 branch([Goal | Goals], Check, Depth, Cells, Before, Steps) :-
+    keep_small(Goal),
     rule(Number, Variables, Head, Body),
     Deeper is Depth + 1, most_steps(MostSteps), keep_within(Deeper, MostSteps, deep),
     length(Variables, Count), InUse is Cells + Count, most_cells(MostCells), keep_within(InUse, MostCells, cells),

@@ -5,7 +5,8 @@ use outcomes::slips::Slip;
 use outcomes::{Fault, Outcome};
 use resolution::Word;
 use resolution::limits::MOST_TRIES;
-use std::alloc::Global;
+use slips::faults::WriteRefusal;
+use std::alloc::{AllocError, Global};
 use stores::rulebooks::{Image, RuleBook};
 
 // more than the slip of any stored case has
@@ -25,29 +26,47 @@ fn open(case: &Case) -> Result<Search, Fault> {
     })
 }
 
-// The slip of the answer that stands.
-fn slip(heap: Global, search: &Search) -> anyhow::Result<Slip> {
+// A call is refused.
+fn refused(number: u8) -> Outcome {
+    Outcome::Refused(Fault {
+        number,
+        place: None,
+        layer: None,
+    })
+}
+
+fn write_slip(search: &Search, buffer: &mut [u8]) -> Result<usize, WriteRefusal> {
+    search.hold()?.slip(buffer)
+}
+
+// The answer that stands, found after so many tries.
+fn answer(heap: Global, search: &Search, tries: u32) -> Result<Outcome, AllocError> {
     let mut buffer = vec![in heap; 0; ROOM]?;
-    let length = search.hold()?.slip(buffer.as_mut_slice())?;
-    buffer.truncate(length);
-    Ok(Slip::new(buffer))
+    match write_slip(search, buffer.as_mut_slice()) {
+        Ok(length) => {
+            buffer.truncate(length);
+            let slip = Slip::new(buffer);
+            Ok(Outcome::Answer { tries, slip })
+        }
+        Err(refusal) => Ok(refused(refusal.number())),
+    }
 }
 
 // One call of next, with as many tries as a call can have.
-fn call(heap: Global, search: &mut Search) -> anyhow::Result<Outcome> {
-    let called = search.next(MOST_TRIES)?;
+fn call(heap: Global, search: &mut Search) -> Result<Outcome, AllocError> {
+    let called = match search.next(MOST_TRIES) {
+        Ok(called) => called,
+        Err(refusal) => return Ok(refused(refusal.number())),
+    };
     let tries = called.tries;
     match called.word {
-        Word::Answer => Ok(Outcome::Answer {
-            tries,
-            slip: slip(heap, search)?,
-        }),
+        Word::Answer => answer(heap, search, tries),
         word => Ok(Outcome::Said { word, tries }),
     }
 }
 
 // Each call's outcome, up to the first that is no answer; at most one more than is stored.
-pub(crate) fn outcomes_of(heap: Global, case: &Case) -> anyhow::Result<Vec<Outcome>> {
+pub(crate) fn outcomes_of(heap: Global, case: &Case) -> Result<Vec<Outcome>, AllocError> {
     let mut found = Vec::new(heap);
     let mut search = match open(case) {
         Ok(search) => search,
