@@ -155,7 +155,8 @@ def some_case(rng, facts, rules, goals, depth, pool, predicates):
         head = some_goal(rng, predicates, depth, names, pool)
         before = {name: predicates[name] for name in predicates if name < head[1][1]} or predicates
         heads.append(head)
-        bodies.append([some_goal(rng, before if rng.random() < 0.9 else predicates, 1, names, pool) for _ in range(rng.randint(1, 3))])
+        goals_over = [before if rng.random() < 0.9 else predicates for _ in range(rng.randint(1, 3))]
+        bodies.append([some_goal(rng, over, 1, names, pool) for over in goals_over])
     order = list(range(len(heads)))
     rng.shuffle(order)
     for index in order:
@@ -220,7 +221,8 @@ def paths(rng, rounds=False):
     steps = PROGRAMS["path"] if rng.random() < 0.6 else PROGRAMS["path"][::-1]
     case.add_all(*(rules + steps if rng.random() < 0.5 else steps + rules))
     start, end = rng.choice(nodes), rng.choice(nodes)
-    return case.ask(rng.choice([f"(path {start} ?x)", f"(path {start} ?x)", f"(path ?x {end})", f"(path {start} {end})", "(path ?x ?y)", "(path ?x ?x)"]))
+    ends = [f"{start} ?x", f"{start} ?x", f"?x {end}", f"{start} {end}", "?x ?y", "?x ?x"]
+    return case.ask(f"(path {rng.choice(ends)})")
 
 
 def counters(rng):
@@ -297,7 +299,9 @@ def shared(rng):
     case = Case(rng).add_all(
         *rng.sample(["(same ?x ?x)", "(same (?x . ?y) (?x . ?y))", "(same a ?x)", "(same ?x b)"], rng.randint(1, 3)),
         *rng.sample(["(swap (?x . ?y) (?y . ?x))", "(swap (?x ?x) ?x)", "(swap ?x (?x ?x))"], rng.randint(1, 3)),
-        *rng.sample(["(chain ?x ?z) <- (same ?x ?y), (same ?y ?z)", "(chain ?x ?y) <- (swap ?x ?z), (swap ?z ?y)"], rng.randint(1, 2)),
+        *rng.sample(
+            ["(chain ?x ?z) <- (same ?x ?y), (same ?y ?z)", "(chain ?x ?y) <- (swap ?x ?z), (swap ?z ?y)"], rng.randint(1, 2)
+        ),
     )
     return case.ask(
         rng.choice(
@@ -347,7 +351,8 @@ def conjunctions(rng):
     ]
     rng.shuffle(rows)
     one = rng.choice(people)
-    goals = ["(parent ?x ?y)", "(likes ?y ?z)", "(grand ?x ?z)", "(sibling ?y ?z)", "(friend ?x ?y)", f"(parent {one} ?y)", f"(aunt ?x {one})", f"(likes ?x {one})"]
+    goals = ["(parent ?x ?y)", "(likes ?y ?z)", "(grand ?x ?z)", "(sibling ?y ?z)", "(friend ?x ?y)"]
+    goals += [f"(parent {one} ?y)", f"(aunt ?x {one})", f"(likes ?x {one})"]
     return case.add_all(*rows).ask(", ".join(rng.sample(goals, rng.randint(1, 3))))
 
 
@@ -364,11 +369,13 @@ def calls(rng):
     rows += [f"(q {rng.choice('abc')})" for _ in range(rng.randint(1, 3))]
     if rng.random() < 0.35:
         # nothing calls in turn, so that a goal may be anything
-        rows += rng.sample(["(r ?x ?x)", "(two ?x) <- (q ?x), (q ?x)", "(with ?x ?y) <- (p ?x ?y)", "yes", "(r ?x . ?y)"], rng.randint(0, 3))
+        more = ["(r ?x ?x)", "(two ?x) <- (q ?x), (q ?x)", "(with ?x ?y) <- (p ?x ?y)", "yes", "(r ?x . ?y)"]
+        rows += rng.sample(more, rng.randint(0, 3))
         rng.shuffle(rows)
-        return case.add_all(*rows).ask(rng.choice(["?g", "?g, ?h", "?g, ?g", "(p ?x ?y), ?g", "?g, (q ?x)", "?g, (p . ?g)", "(q ?x), (?x . ?y)", "(?f a)", "(?f ?x ?x)"]))
+        goals = ["?g", "?g, ?h", "?g, ?g", "(p ?x ?y), ?g", "?g, (q ?x)", "?g, (p . ?g)", "(q ?x), (?x . ?y)", "(?f a)"]
+        return case.add_all(*rows).ask(rng.choice([*goals, "(?f ?x ?x)"]))
     rows += ["(call ?x) <- ?x", "(and ?x ?y) <- ?x, ?y", "(or ?x ?y) <- ?x", "(or ?x ?y) <- ?y"]
-    rows += [f"(named {name} {goal})" for name, goal in [("m", "(q a)"), ("n", "(p ?x ?y)"), ("m", "(q ?x)"), ("k", "(r)")][: rng.randint(1, 4)]]
+    rows += ["(named m (q a))", "(named n (p ?x ?y))", "(named m (q ?x))", "(named k (r))"][: rng.randint(1, 4)]
     rows += ["(run ?n ?g) <- (named ?n ?g), ?g", "(each () ())", "(each (?g . ?r) (?g . ?s)) <- ?g, (each ?r ?s)"]
     rng.shuffle(rows)
     simple = ["(q a)", "(q ?x)", "(p ?x ?y)", "(p ?y ?x)", "(p a ?y)", "(r ?x)"]
@@ -379,7 +386,8 @@ def calls(rng):
         form = rng.choice(["(call {})", "(and {} {})", "(or {} {})"])
         return form.format(*(goal(depth - 1) for _ in range(form.count("{}"))))
 
-    wide = ["(run ?n ?g)", "(run m ?g)", "(run n (p ?x ?x))", "(each ((q ?x) (p ?x ?y)) ?l)", "(named ?n ?g), (call ?g)", "(named ?n ?g), ?g"]
+    wide = ["(run ?n ?g)", "(run m ?g)", "(run n (p ?x ?x))", "(each ((q ?x) (p ?x ?y)) ?l)"]
+    wide += ["(named ?n ?g), (call ?g)", "(named ?n ?g), ?g"]
     return case.add_all(*rows).ask(rng.choice([goal(3), goal(2), f"(call {goal(2)})", rng.choice(wide), rng.choice(wide)]))
 
 
@@ -416,13 +424,16 @@ def occurs(rng):
         "(hole (a . ?t)) <- (same ?t a)",
         "(same ?x ?y) <- (two ?x ?y)",
     )
-    goals = ["(same ?x (s . ?x))", "(odd ?x ?x)", "(odd ?x ?y)", "(round ?x ?x)", "(round ?x ?y)", "(hole ?x)", "(same ?y (a . ?x))", "(open (a . ?x) ?x)", "(gap ?x (a . ?x))", "(two ?y ?x)", "(same (?x . ?y) (?y . (a . ?x)))", "(next ?x ?y)"]
+    goals = ["(same ?x (s . ?x))", "(odd ?x ?x)", "(odd ?x ?y)", "(round ?x ?x)", "(round ?x ?y)", "(hole ?x)"]
+    goals += ["(same ?y (a . ?x))", "(open (a . ?x) ?x)", "(gap ?x (a . ?x))", "(two ?y ?x)"]
+    goals += ["(same (?x . ?y) (?y . (a . ?x)))", "(next ?x ?y)"]
     return case.ask(", ".join(rng.sample(goals, rng.randint(1, 3))))
 
 
 def mixed(rng):
     predicates = {"p": rng.randint(1, 2), "q": rng.randint(1, 3), "r": rng.randint(0, 2), "s": 2}
-    return some_case(rng, rng.randint(2, 6), rng.randint(2, 6), rng.randint(1, 3), 2, rng.choice([["x"], ["x", "y"], ["x", "y", "z"]]), predicates)
+    pool = ["x", "y", "z"][: rng.randint(1, 3)]
+    return some_case(rng, rng.randint(2, 6), rng.randint(2, 6), rng.randint(1, 3), 2, pool, predicates)
 
 
 def stops(rng):
@@ -433,27 +444,34 @@ def stops(rng):
     extra = rng.choice([0, 0, 3, 9, 40, 60])
     case = Case(rng)
     rows = ["(loop ?x) <- (loop (s . ?x))"] if roll < 0.6 else ["(loop (s . ?x)) <- (loop ?x)"]
-    rows += rng.sample(["(loop a)", "(loop (s . b))", "(loop c) <- (loop (s . (s . c)))", "(other ?x)", "(other b) <- (loop b)"], rng.randint(0, 4))
+    more = ["(loop a)", "(loop (s . b))", "(loop c) <- (loop (s . (s . c)))", "(other ?x)", "(other b) <- (loop b)"]
+    rows += rng.sample(more, rng.randint(0, 4))
     if roll < 0.8:
         rng.shuffle(rows)
     for row in rows:
         case.add_all(row, extra=rng.randint(extra // 2, extra))
-    return case.ask(rng.choice(["(loop ?x)", "(loop b)", "(loop (s . b))", "(other ?x), (loop ?x)", "(other b)", "(loop ?x), (other ?x)"]), extra=rng.randint(0, extra))
+    goals = ["(loop ?x)", "(loop b)", "(loop (s . b))", "(other ?x), (loop ?x)", "(other b)", "(loop ?x), (other ?x)"]
+    return case.ask(rng.choice(goals), extra=rng.randint(0, extra))
 
 
 # ── limits ──
 
 
+def times(number, goal):
+    return ", ".join([goal] * number)
+
+
 def steps(rng, last):
     """A tree of rules whose branch has 511 steps and then those that the last goal takes."""
     case = Case(rng)
-    case.add_all("end", "three <- end, end", f"sixteen <- {', '.join(['end'] * 15)}", f"side <- {', '.join(['sixteen'] * 15)}", extra=0)
-    case.add_all(f"other <- {', '.join(['sixteen'] * 16)}", f"top <- side, other, three, three, three, three, {last}", extra=0)
+    # 1, 3, 16, 241 and 257 steps
+    case.add_all("end", "three <- end, end", f"sixteen <- {times(15, 'end')}", extra=0)
+    case.add_all(f"side <- {times(15, 'sixteen')}", f"other <- {times(16, 'sixteen')}", extra=0)
+    case.add_all(f"top <- side, other, {times(4, 'three')}, {last}", extra=0)
     return case.ask("top", extra=0)
 
 
 def deepest(rng):
-    # 1 and 241 and 257 and 4 times 3 and 1
     return steps(rng, "end")
 
 
@@ -493,6 +511,19 @@ def most_rules(rng):
     return case.ask(rng.choice(atoms), extra=1)
 
 
+def most_bytes(rng):
+    """Rules and query take 16,384 bytes: a rule has 5, an atom 3, a variable 2 and a pair 1, and the query is (n . ?x)."""
+    case, firsts = Case(rng), [f"n{number}" for number in range(40)]
+
+    def row(length, end):
+        return f"({' '.join([rng.choice(firsts), *(rng.choice('abcd') for _ in range(length - 1))])} . {end})"
+
+    rows = [row(127, rng.choice("abcd")) for _ in range(29)] + [row(116, "?r"), row(116, "?r"), row(115, "?r")]
+    rng.shuffle(rows)
+    return case.add_all(*rows, extra=0).ask(f"({rows[0].split(' ')[0][1:]} . ?x)", extra=0)
+
+
 # a group has a way to make a case, or several in turn
-GROUPS = {group.__name__: [group] for group in [facts, recursion, lists, shared, unknowns, conjunctions, worlds, calls, occurs, mixed, stops]}
-GROUPS["limits"] = [deepest, too_deep, fullest, too_full, many_unknowns, many_rules, most_rules]
+SINGLE = [facts, recursion, lists, shared, unknowns, conjunctions, worlds, calls, occurs, mixed, stops]
+GROUPS = {group.__name__: [group] for group in SINGLE}
+GROUPS["limits"] = [deepest, too_deep, fullest, too_full, many_unknowns, many_rules, most_rules, most_bytes]

@@ -13,15 +13,18 @@ reads : {A : Type 0} (xs : List A) (place : ℕ) (x : A) → AtPlace xs place x 
 reads xs place x at = grind (arith, slice_get-get_or xs place x at.within, at.is)
 
 -- other elements there make the lists differ there
-pub apart : {A : Type 0} (xs ys : List A) (place : ℕ) (x y : A) → AtPlace xs place x → AtPlace ys place y → (x ≡ y → ⊥) → slice_get xs place ≢ slice_get ys place
+pub apart : {A : Type 0} (xs ys : List A) (place : ℕ) (x y : A) → AtPlace xs place x → AtPlace ys place y →
+    (x ≡ y → ⊥) → slice_get xs place ≢ slice_get ys place
 apart xs ys place x y here there differ same = grind (arith, reads xs place x here, reads ys place y there, differ, same)
 
 -- equal elements there keep the lists the same one place further
-pub further : {A : Type 0} (xs ys : List A) (place : ℕ) (x y : A) → AtPlace xs place x → AtPlace ys place y → x ≡ y → take place xs ≡ take place ys → take (place + 1) xs ≡ take (place + 1) ys
+pub further : {A : Type 0} (xs ys : List A) (place : ℕ) (x y : A) → AtPlace xs place x → AtPlace ys place y →
+    x ≡ y → take place xs ≡ take place ys → take (place + 1) xs ≡ take (place + 1) ys
 further xs ys place x y here there same before =
     grind (arith, take-suc xs place x here.within, take-suc ys place y there.within, here.is, there.is, same, before)
 
 -- lists of unequal lengths differ where the shorter one ends
-pub ends-apart : {A : Type 0} (xs ys : List A) (place : ℕ) → place ≡ min (length xs) (length ys) → (length xs ≡ length ys → ⊥) → slice_get xs place ≢ slice_get ys place
+pub ends-apart : {A : Type 0} (xs ys : List A) (place : ℕ) → place ≡ min (length xs) (length ys) →
+    (length xs ≡ length ys → ⊥) → slice_get xs place ≢ slice_get ys place
 ends-apart xs ys place shorter unequal same =
     grind (arith, slice_get_cases xs place, slice_get_cases ys place, shorter, unequal, same)

@@ -23,7 +23,8 @@ loop-place-preserved c =
 
 pub returns-else-found-stored-clause-first : goal.returns-else-found-stored-clause-first
 returns-else-found-stored-clause-first c =
-    let at_end : c.loop-place.place ≡ c.min-shorter.result = omega (arith, c.loop-place-test.false, c.loop-place.auto.place-end) in
+    let at_end : c.loop-place.place ≡ c.min-shorter.result =
+    omega (arith, c.loop-place-test.false, c.loop-place.auto.place-end) in
     record {
       same = subst (λ k. take k c.args.found.now ≡ take k c.args.stored.now) at_end c.loop-place.invariant;
       other = ends-apart _ _ _ c.min-shorter.ensures c.if-found-stored.false;
