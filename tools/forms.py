@@ -46,6 +46,22 @@ def world(number):
     return bytes([0x11, number])
 
 
+def sized_rule(size):
+    """A rule of so many bytes: pairs with an atom or a variable first, and a variable or an atom at the end."""
+    left = size - 5
+    for variables in range(4):
+        for last in (var(0), atom(7)):
+            used = 3 * variables + (2 if last[0] == "var" else 3)
+            if left >= used and (left - used) % 4 == 0:
+                term = last
+                for _ in range(variables):
+                    term = pair(var(0), term)
+                for number in range((left - used) // 4):
+                    term = pair(atom(number), term)
+                return rule(1, term)
+    raise ValueError(size)
+
+
 def notation(term):
     """The readable notation of a term."""
     if term[0] == "atom":

@@ -6,10 +6,10 @@ ghost use Rattle.comparing.specs.Streams.{due_after as due_left};
 ghost use Rattle.comparing.specs.Texts.{SomeTerm, Agreed};
 ghost use Rattle.checker.specs.Texts.{sources, ToCome};
 
-use crate::texts::{Texts, size};
+use crate::texts::Texts;
 use comparing::{Cursor, Inside};
 use grammar::commands::Command;
-use reading::commands::Reader;
+use reading::commands::{Reader, command_size};
 use stores::stores::Store;
 use terms::Form;
 
@@ -63,7 +63,7 @@ impl<'a, S: Store> Under<'a, S> {
         }
         // a term is to come, so a command is there
         let command = self.texts.command(cursor.source, cursor.place).unwrap();
-        cursor.place += size(command);
+        cursor.place += command_size(command, Form::Rules);
         let Command::Var(number) = command else {
             return command;
         };

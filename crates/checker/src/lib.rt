@@ -7,6 +7,7 @@ mod parts;
 mod places;
 mod progress;
 mod texts;
+pub mod verdicts;
 
 ghost use Rattle.std.specs.Prelude.{◌≡◌};
 ghost use Rattle.slips.specs.Checker.{check as check_definition};

@@ -1,8 +1,6 @@
 // What a slip is checked by: the rules of a store, the goals of the query, and the slip itself.
 ghost use Rattle.std.specs.Prelude.{◌≡◌, ℕ, ◌+◌, ◌^◌, ◌<◌, ◌≤◌, List, length, OnSome};
-ghost use Rattle.terms.specs.declared.Form.TheVariants.{Rules};
 ghost use Rattle.terms.specs.Terms.{Term};
-ghost use Rattle.reading.specs.Taking.{size as command_size};
 ghost use Rattle.stores.specs.Answers.{byte_at};
 ghost use Rattle.slips.specs.Checker.{has_rule};
 ghost use Rattle.slips.specs.Opening.{rules_in};
@@ -29,17 +27,6 @@ pub(crate) struct Texts<'a, S> {
     ghost countable: { length slip.now + 518 < 2 ^ 64 },
 }
 
-// How many bytes a command has in a text. The reader has this for either form, inside it, with places of another width.
-pub(crate) fn size(command: Command) -> u16
-    ensures { result ≡ command_size Rules command }
-{
-    match command {
-        Command::Pair => 1,
-        Command::Var(_) => 2,
-        Command::Atom(_) => 3,
-    }
-}
-
 impl<'a, S: Store> Texts<'a, S> {
     ghost use Rattle.checker.specs.Texts.{sources};
 
@@ -57,16 +44,15 @@ impl<'a, S: Store> Texts<'a, S> {
     pub(crate) fn command(&self, source: Source, at: u16) -> Option<Command>
         ensures { result ≡ text_first (text_of (sources S.Store.rules self.now) source) at }
     {
-        let first = self.byte(source, at)?;
-        if first == PAIR {
-            return Some(Command::Pair);
+        match self.byte(source, at)? {
+            PAIR => Some(Command::Pair),
+            VARIABLE => Some(Command::Var(u16::from(self.byte(source, at + 1)?))),
+            _ => {
+                let high = self.byte(source, at + 1)?;
+                let low = self.byte(source, at + 2)?;
+                Some(Command::Atom(u16::from_be_bytes([high, low])))
+            }
         }
-        let next = self.byte(source, at + 1)?;
-        if first == VARIABLE {
-            return Some(Command::Var(u16::from(next)));
-        }
-        let last = self.byte(source, at + 2)?;
-        Some(Command::Atom(u16::from_be_bytes([next, last])))
     }
 
     // There is a rule with this number that has so many variables.

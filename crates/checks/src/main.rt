@@ -4,8 +4,8 @@
 
 use boards::boards::Board;
 use checker::check;
+use checker::verdicts::Verdict;
 use hexadecimal::decode;
-use notation::OrDash;
 use std::alloc::{AllocError, Global};
 use stores::lent::Lent;
 use stores::piles::Pile;
@@ -65,15 +65,10 @@ impl Case {
         Ok(Case { query, slip })
     }
 
-    // What comes of it by one store, as `verify` prints it: a library for these lines would be longer.
+    // What comes of it by one store.
     fn verdict<S: Store>(&self, heap: Global, store: &S) -> Result<String, Failure> {
-        match check(store, self.query.as_slice(), self.slip.as_slice()) {
-            Ok(()) => Ok(String::from_str(heap, "passed")?),
-            Err(fault) => {
-                let steps = OrDash(fault.steps());
-                Ok(format!(in heap; "refused,{fault},{steps}")?)
-            }
-        }
+        let checked = check(store, self.query.as_slice(), self.slip.as_slice());
+        Ok(Verdict(checked).to_string(heap)?)
     }
 
     fn by_book(&self, heap: Global, rules: &str) -> Result<String, Failure> {

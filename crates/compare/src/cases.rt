@@ -3,7 +3,7 @@
 use anyhow::{Context, Result};
 use hexadecimal::decode;
 use outcomes::slips::Slip;
-use outcomes::{Fault, Outcome};
+use outcomes::{Fault, Outcome, Position};
 use resolution::{Stop, Word};
 use std::alloc::Global;
 
@@ -29,14 +29,23 @@ fn word(name: &str) -> Option<Word> {
     }
 }
 
-// A fault as number, place and layer; a place or a layer that is not there is a dash.
+fn position(text: &str) -> Option<Position> {
+    let (place, layer) = text.split_once(',')?;
+    Some(Position {
+        place: place.parse().ok()?,
+        layer: layer.parse().ok()?,
+    })
+}
+
+// A fault as number, place and layer; without a position, dashes stand for the last two.
 fn fault(text: &str) -> Option<Fault> {
     let (number, rest) = text.split_once(',')?;
-    let (place, layer) = rest.split_once(',')?;
     Some(Fault {
         number: number.parse().ok()?,
-        place: place.parse().ok(),
-        layer: layer.parse().ok(),
+        position: match rest {
+            "-,-" => None,
+            _ => Some(position(rest)?),
+        },
     })
 }
 

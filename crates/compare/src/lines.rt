@@ -1,17 +1,16 @@
 // Outcomes as a line of text, in the form in which they are stored.
 use hexadecimal::encode;
-use notation::OrDash;
-use outcomes::Outcome;
+use outcomes::{Fault, Outcome, Position};
 use std::alloc::{AllocError, Global};
 
 fn outcome_text(heap: Global, outcome: &Outcome) -> Result<String, AllocError> {
     match outcome {
-        Outcome::Refused(fault) => {
-            let number = fault.number;
-            let place = OrDash(fault.place);
-            let layer = OrDash(fault.layer);
-            format!(in heap; "refused,{number},{place},{layer}")
-        }
+        Outcome::Refused(Fault { number, position }) => match position {
+            Some(Position { place, layer }) => {
+                format!(in heap; "refused,{number},{place},{layer}")
+            }
+            None => format!(in heap; "refused,{number},-,-"),
+        },
         Outcome::Answer { tries, slip } => {
             let digits = encode(heap, slip.bytes())?;
             format!(in heap; "answer,{tries},{digits}")

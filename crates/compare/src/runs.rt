@@ -2,7 +2,7 @@
 use crate::cases::Case;
 use engine::search::Search;
 use outcomes::slips::Slip;
-use outcomes::{Fault, Outcome};
+use outcomes::{Fault, Outcome, Position};
 use resolution::Word;
 use resolution::limits::MOST_TRIES;
 use slips::faults::WriteRefusal;
@@ -12,17 +12,22 @@ use stores::rulebooks::{Image, RuleBook};
 // more than the slip of any stored case has
 const ROOM: usize = 32_768;
 
+fn position(place: Option<usize>, layer: Option<u8>) -> Option<Position> {
+    Some(Position {
+        place: place?,
+        layer: layer?,
+    })
+}
+
 fn open(case: &Case) -> Result<Search, Fault> {
     let image = Image::new(case.book.as_slice());
     let book = RuleBook::open(&image).map_err(|fault| Fault {
         number: fault.number(),
-        place: Some(fault.place()),
-        layer: Some(fault.layer()),
+        position: position(Some(fault.place()), Some(fault.layer())),
     })?;
     Search::open(&book, case.query.as_slice()).map_err(|fault| Fault {
         number: fault.number(),
-        place: fault.place(),
-        layer: fault.layer(),
+        position: position(fault.place(), fault.layer()),
     })
 }
 
@@ -30,8 +35,7 @@ fn open(case: &Case) -> Result<Search, Fault> {
 fn refused(number: u8) -> Outcome {
     Outcome::Refused(Fault {
         number,
-        place: None,
-        layer: None,
+        position: None,
     })
 }
 

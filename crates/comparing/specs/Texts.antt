@@ -1,7 +1,7 @@
 -- The texts that cursors go over: the goals of a query, and the rules of a store. Assumes nothing.
-use Rattle.std.specs.Prelude.{ℕ, Bool, cond, List, [], ◌∷◌, nat_lt, slice_index_or}
+use Rattle.std.specs.Prelude.{ℕ, Bool, List, ◌∷◌}
 use Rattle.terms.specs.Terms.{Term}
-use Rattle.stores.specs.Answers.{count_of}
+use Rattle.stores.specs.Answers.{bytes_of}
 use Rattle.comparing.specs.declared.Source.{Source}
 use Rattle.comparing.specs.declared.Source.TheVariants.{Query, Rule}
 use Rattle.comparing.specs.declared.Cursor.{Cursor}
@@ -17,7 +17,7 @@ pub record Sources : Type 0 where
 -- the bytes of a text; a number that is no rule's has none
 abbrev pub text_of : Sources → Source → List ℕ
 text_of s Query = s.body
-text_of s (Rule i) = cond (nat_lt i (count_of s.rules)) (slice_index_or s.rules i []) []
+text_of s (Rule i) = bytes_of s.rules i
 
 -- these terms are to come at a cursor, by a table of where the terms of the slip begin
 abbrev pub Comes : Sources → List ℕ → Cursor → List Term → Type 0

@@ -1,11 +1,11 @@
 -- What slots ask of a search, and what they then hold. Assumes nothing.
-use Rattle.std.specs.Prelude.{ℕ, List, [], vec_items}
+use Rattle.std.specs.Prelude.{ℕ, List, [], vec_items, Some, None, Option as Maybe}
 use Rattle.std.proofs.Math.Option.{Option, none, some}
 use Rattle.slips.specs.Runs.{Request as Asked, to_next, to_rewind, to_tally, to_hold, to_answer, to_slip, Reply as Returned, told, rewound, tallied, held, wrote}
 use Rattle.engine.specs.declared.slots.Request.{Request}
 use Rattle.engine.specs.declared.slots.Request.TheVariants.{Next, Rewind, Tally, Hold, Answer, Slip}
 use Rattle.engine.specs.declared.slots.Reply.{Reply}
-use Rattle.engine.specs.declared.slots.Reply.TheVariants.{Open, Next as Told, Rewound, Tallied, Held, Wrote}
+use Rattle.engine.specs.declared.slots.Reply.TheVariants.{Next as Told, Rewound, Tallied, Held, Wrote}
 use Rattle.engine.specs.declared.slots.Slot.{Slot}
 
 -- a call with the bytes of its buffer
@@ -21,13 +21,14 @@ request_with Slip bytes = to_slip bytes
 abbrev pub asked : Slot → Asked
 asked s = request_with s.request (vec_items s.buffer)
 
-abbrev pub reply_with : Reply → List ℕ → Option Returned
-reply_with Open bytes = none
-reply_with (Told r) bytes = some (told r)
-reply_with Rewound bytes = some rewound
-reply_with (Tallied t) bytes = some (tallied t)
-reply_with (Held r) bytes = some (held r)
-reply_with (Wrote r) bytes = some (wrote r bytes)
+-- a reply, where there is one, with what the buffer holds
+abbrev pub reply_with : Maybe Reply → List ℕ → Option Returned
+reply_with None bytes = none
+reply_with (Some (Told r)) bytes = some (told r)
+reply_with (Some Rewound) bytes = some rewound
+reply_with (Some (Tallied t)) bytes = some (tallied t)
+reply_with (Some (Held r)) bytes = some (held r)
+reply_with (Some (Wrote r)) bytes = some (wrote r bytes)
 
 -- what a slot's call returned, with what its buffer then holds; nothing where it was not carried out
 abbrev pub returned : Slot → Option Returned

@@ -1,11 +1,12 @@
 // The answer in hand, and what is written of it.
 ghost use Rattle.std.specs.Prelude.{◌≡◌, IfOk};
 ghost use Rattle.reading.specs.Views.{seen};
-ghost use Rattle.slips.specs.Slips.{slip_of, answer_bytes, slip_bytes};
+ghost use Rattle.slips.specs.Slips.{slip_of, numbers, answer_bytes, slip_bytes};
 ghost use Rattle.slips.specs.Runs.{wrote, hold as definition_hold, written, written_if};
 ghost use Rattle.engine.specs.Models.{rules_of, query_of, model};
 
 use crate::search::{Condition, Search};
+use machine::numbers::Numbers;
 use slips::faults::WriteRefusal;
 
 // While it is in hand the search is lent for reading, so that neither next nor rewind can be called.
@@ -47,6 +48,13 @@ impl Answer<'_> {
             .machine
             .write_slip(buffer)
             .ok_or(WriteRefusal::NoRoom)
+    }
+
+    // The rule numbers of its steps, oldest first.
+    pub fn numbers(&self) -> Numbers
+        ensures { result.items ≡ numbers (slip_of (rules_of self.now.search.now) (query_of self.now.search.now) (model self.now.search.now).place).steps }
+    {
+        self.search.machine.numbers()
     }
 }
 

@@ -23,19 +23,19 @@ impl Search {
         ensures rules { rules_of self.new ≡ rules_of self.old }
         ensures query { query_of self.new ≡ query_of self.old }
     {
-        match slot.request {
-            Request::Next(allowance) => slot.reply = Reply::Next(self.next(allowance)),
+        let buffer = slot.buffer.as_mut_slice();
+        let reply = match slot.request {
+            Request::Next(allowance) => Reply::Next(self.next(allowance)),
             Request::Rewind => {
                 self.rewind();
-                slot.reply = Reply::Rewound;
+                Reply::Rewound
             }
-            Request::Tally => slot.reply = Reply::Tallied(self.tally()),
-            Request::Hold => slot.reply = Reply::Held(self.held()),
-            Request::Answer => slot.reply = Reply::Wrote(self.write_answer(
-                slot.buffer.as_mut_slice(),
-            )),
-            Request::Slip => slot.reply = Reply::Wrote(self.write_slip(slot.buffer.as_mut_slice())),
-        }
+            Request::Tally => Reply::Tallied(self.tally()),
+            Request::Hold => Reply::Held(self.held()),
+            Request::Answer => Reply::Wrote(self.write_answer(buffer)),
+            Request::Slip => Reply::Wrote(self.write_slip(buffer)),
+        };
+        slot.reply = Some(reply);
     }
 }
 

@@ -16,8 +16,6 @@ pub enum Request {
 
 #[derive(Clone, Copy)]
 pub enum Reply {
-    // the call was not carried out
-    Open,
     Next(Result<Outcome, Refusal>),
     Rewound,
     Tallied(Tally),
@@ -25,10 +23,10 @@ pub enum Reply {
     Wrote(Result<usize, WriteRefusal>),
 }
 
-// A call, the buffer that it may write to, and what it returned.
+// A call, the buffer that it may write to, and what it returned; nothing where it was not carried out.
 #[derive(Drop)]
 pub struct Slot {
     pub request: Request,
     pub buffer: Vec<u8>,
-    pub reply: Reply,
+    pub reply: Option<Reply>,
 }

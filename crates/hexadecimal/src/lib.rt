@@ -14,6 +14,7 @@ pub fn decode(heap: Global, text: &[u8]) -> Result<Option<Vec<u8>>, AllocError>
 {
     match hex::decode(heap, text) {
         Ok(bytes) => Ok(Some(bytes)),
+        // a match of its own: an arm of the outer one would not tell the proof which fault it is
         Err(fault) => match fault {
             FromHexError::OutOfMemory => Err(AllocError),
             _ => Ok(None),

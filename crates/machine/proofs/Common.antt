@@ -79,7 +79,7 @@ meaning_as {text} {text'} {cs} {cs'} {h} {h'} g t d k =
 
 -- ── two terms in the text ──
 
-pub loaded : (goal head text : List ℕ) → text ≡ goal ++ head → Holds text 0 goal × Holds text (length goal) head
+loaded : (goal head text : List ℕ) → text ≡ goal ++ head → Holds text 0 goal × Holds text (length goal) head
 loaded goal head text is = (
   subst (λ (t : List ℕ). Holds t 0 goal) (sym is) (holds_more 0 goal goal head (holds_after [] goal)),
   subst (λ (t : List ℕ). Holds t (length goal) head) (sym is) (holds_after goal head),
@@ -152,14 +152,16 @@ module _ (text : List ℕ) (c : Cells) (a b : Rule) (r : Head) (g : TermAt)
       ∙ ap (λ (n : ℕ). instance_by (unify (shifted n a.head) b.head) b.head) used
 
 module _ {left right : List ℕ} {v w : RuleView} (a : Fact left v) (b : Fact right w) (text : List ℕ) (c : Cells)
-    (goal : Holds text 0 w.head) (head : Holds text (length w.head) v.head)
-    (size : length text ≤ 16384) (many : length c.table ≡ 2048) (free : (i : ℕ) → get_or c.table i None ≡ None)
+    (is : text ≡ w.head ++ v.head) (many : length c.table ≡ 2048) (free : (i : ℕ) → get_or c.table i None ≡ None)
     (used : c.used ≡ w.variables) (newest : c.newest ≡ none_bound) where
   goal_holds : Holds text 0 (encoding Rules b.is.head)
-  goal_holds = subst (λ (bs : List ℕ). Holds text 0 bs) b.head goal
+  goal_holds = subst (λ (bs : List ℕ). Holds text 0 bs) b.head (loaded w.head v.head text is).0
 
   head_holds : Holds text (length w.head) (encoding Rules a.is.head)
-  head_holds = subst (λ (bs : List ℕ). Holds text (length w.head) bs) a.head head
+  head_holds = subst (λ (bs : List ℕ). Holds text (length w.head) bs) a.head (loaded w.head v.head text is).1
+
+  size : length text ≤ 16384
+  size = omega (arith, ap length is, length-append w.head v.head, a.short, b.short)
 
   pub both_ready : Ready text c (record { place = length w.head; variables = v.variables }) (record { place = 0; level = 0 })
   both_ready =

@@ -30,6 +30,35 @@ use Rattle.machine.specs.Openings.{Appended, AllCopied}
 use Rattle.grammar.proofs.Alone.{queries_inverse}
 use Rattle.reading.specs.Views.{seen, QueryView, query_shown}
 
+-- ── a rule's bytes, one after the other ──
+
+-- as far as the bytes `whole` were put behind others: the bytes in front are there, and those behind are left
+pub record Laying (others whole front behind now : List ℕ) : Type 0 where
+  pub parts : whole ≡ front ++ behind
+  pub laid : now ≡ others ++ front
+  pub room : length now ≤ 16384
+
+pub laying_none : (others whole behind : List ℕ) → behind ≡ whole → length others ≤ 16384 → Laying others whole [] behind others
+laying_none others whole behind e l = record { parts = sym e; laid = sym (append-nil others); room = l }
+
+module _ (others whole front behind now : List ℕ) (l : Laying others whole front behind now) where
+  module _ (b : ℕ) (rest : List ℕ) (e : behind ≡ b ∷ rest) where
+    pub laying_more : (more : List ℕ) → more ≡ now ++ b ∷ [] → length more ≤ 16384 → Laying others whole (front ++ b ∷ []) rest more
+    laying_more more m r =
+        record {
+          parts = l.parts ∙ ap (λ (bs : List ℕ). front ++ bs) e ∙ sym (append_assoc front (b ∷ []) rest);
+          laid = m ∙ ap (λ (bs : List ℕ). bs ++ b ∷ []) l.laid ∙ append_assoc others front (b ∷ []);
+          room = r;
+        }
+
+    -- no room for the byte: none for them all
+    pub laying_full : length now ≡ 16384 → 16384 < length others + length whole
+    laying_full full =
+        omega (arith, full, ap length l.laid, length-append others front, ap length l.parts, length-append front behind, ap length e)
+
+  pub laid_all : behind ≡ [] → now ≡ others ++ whole
+  laid_all e = l.laid ∙ ap (λ (bs : List ℕ). others ++ bs) (sym (l.parts ∙ ap (λ (bs : List ℕ). front ++ bs) e ∙ append-nil front))
+
 -- ── the rules, one after the other ──
 
 clauses_count : (p : ℕ) (ts : List (List ℕ)) → length (clauses_from p ts) ≡ length ts

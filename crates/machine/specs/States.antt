@@ -50,8 +50,8 @@ pub record Good (s : State) : Type 0 where
   pub order : InOrder (text_of s) s.clauses s.question.variables (at_of s)
   pub stated : all_stated? (text_of s) s.clauses ≡ true
   pub asked : Declared (text_of s) s.question.variables s.question.place s.question.goals
-  -- a vector tells its bound only where its length is asked for, and going back does not ask
   pub depth : s.tables.branch.depth ≤ 512
+  -- a vector tells its bound only where its length is asked for, and going back does not ask
   pub count : length s.clauses ≤ 1024
   pub all_cells : length s.tables.cells.table ≡ 2048
 

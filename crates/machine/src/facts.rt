@@ -1,6 +1,5 @@
 // Unification of two facts that are given as bytes.
-ghost use Rattle.std.specs.Prelude.{◌≡◌, ℕ, ◌+◌, ◌<◌, ◌≤◌, List, length, slice_index_or};
-ghost use Rattle.bindings.specs.Texts.{Holds};
+ghost use Rattle.std.specs.Prelude.{◌≡◌, ℕ, ◌+◌, ◌<◌, ◌≤◌, List, ◌++◌, length, slice_index_or};
 ghost use Rattle.bindings.specs.Trails.{none_bound};
 ghost use Rattle.machine.specs.declared.facts.FactsFault.TheVariants.{Reading};
 ghost use Rattle.machine.specs.Tries.{Ready, found, goal_term};
@@ -34,12 +33,11 @@ impl From<SingleFault> for FactsFault {
     }
 }
 
-// Tables over a goal's bytes, with so many variables, and a head's bytes after them.
+// Tables over a goal's bytes, with so many variables, and a head's bytes after them. `Machine::open` makes its tables so too; the
+// contract of a function for both would be those of `Cells::new` and `Branch::new` again.
 fn load(goal: &[u8], variables: u8, head: &[u8]) -> Tables
     requires { length goal.now + length head.now ≤ 16384 }
-    ensures goal { Holds result.text.bytes 0 goal.now }
-    ensures head { Holds result.text.bytes (length goal.now) head.now }
-    ensures size { length result.text.bytes ≤ 16384 }
+    ensures text { result.text.bytes ≡ goal.now ++ head.now }
     ensures free { ((i : ℕ) → slice_index_or result.cells.table i None ≡ None) }
     ensures many { length result.cells.table ≡ 2048 }
     ensures used { result.cells.used ≡ variables }

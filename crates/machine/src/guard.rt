@@ -51,7 +51,7 @@ impl Guard<'_> {
         self.keep = true;
     }
 
-    // Binds a free cell to a term.
+    // Binds a free cell to a term. `OnlyBound` is what a method leaves as it was, and no fact of one value.
     pub(crate) fn bind(&mut self, cell: u16, term: TermAt)
         requires { (cell < length self.old.cells.now) × (slice_index_or self.old.cells.now cell None ≡ None) }
         ensures cells { self.new.cells.now ≡ slice_set self.old.cells.now cell (Some (record { term = term; before = self.old.newest })) }

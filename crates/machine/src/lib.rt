@@ -11,6 +11,7 @@ mod instance;
 pub mod machine;
 mod moves;
 mod numbering;
+pub mod numbers;
 mod opening;
 mod question;
 mod sink;

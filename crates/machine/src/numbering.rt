@@ -7,7 +7,8 @@ ghost use Rattle.machine.specs.Numberings.{Named};
 
 use crate::cells::CELLS;
 
-// The unknowns that were met, numbered from 0 in the order in which they were.
+// The unknowns that were met, numbered from 0 in the order in which they were. The table goes by cell, and `met` is no length
+// of it.
 #[derive(Drop)]
 pub(crate) struct Unknowns {
     // the number of each cell that was met, and how many were

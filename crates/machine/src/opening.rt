@@ -22,33 +22,29 @@ use branches::Clause;
 use grammar::limits::{HEADER, MOST_RULES};
 use reading::rules::read_query;
 use slips::faults::OpeningFault;
+use stores::rule_bytes::RuleBytes;
 use stores::stores::Store;
 
 impl Text {
     // Copies a rule's bytes to the end.
     fn copy_rule<S: Store>(&mut self, store: &S, rule: u16) -> Result<(), OpeningFault>
-        requires there { rule < count_of (S.Store.rules store.now) }
-        requires size { length self.old.bytes ≤ 16384 }
+        requires { rule < count_of (S.Store.rules store.now) }
         ensures { Copied self.old (slice_index_or (S.Store.rules store.now) rule []) self.new result }
     {
-        let size = store.size(rule).unwrap();
-        for at in 0..size {
-            if self.bytes.is_full() {
-                return Err(OpeningFault::TooManyBytes);
-            }
-            let byte = store.byte(rule, at).unwrap();
-            self.bytes.push(byte);
+        for byte in RuleBytes::new(store, rule) {
+            self.bytes
+                .try_push(byte)
+                .map_err(|_| OpeningFault::TooManyBytes)?;
         }
         Ok(())
     }
 
     // Where the parts of the rule stand whose bytes begin at this place.
     fn clause(&self, begin: usize) -> Clause
-        requires there { (r : Rule) × FitRule r × Holds self.now.bytes begin (rule_bytes r) }
-        requires size { length self.now.bytes ≤ 16384 }
+        requires { (r : Rule) × FitRule r × Holds self.now.bytes begin (rule_bytes r) }
         ensures { (r : Rule) → FitRule r → Holds self.now.bytes begin (rule_bytes r) → result ≡ clause_of begin r }
     {
-        let text = self.as_slice();
+        let text = self.bytes.as_slice();
         let head = begin + HEADER;
         Clause {
             head: head as u16,
@@ -61,15 +57,15 @@ impl Text {
 
 // Copies every rule, and notes where each stands.
 fn gather<S: Store>(store: &S, text: &mut Text) -> Result<ArrayVec<Clause, CLAUSES>, OpeningFault>
-    requires few { length (S.Store.rules store.now) ≤ 1024 }
-    requires size { length text.old.bytes ≤ 16384 }
+    requires { length (S.Store.rules store.now) ≤ 1024 }
     ensures { Gathered text.old (S.Store.rules store.now) text.new result }
 {
     let mut clauses = ArrayVec::new();
+    let mut begin = text.len();
     for rule in 0..store.count() {
-        let begin = text.len();
         text.copy_rule(store, rule)?;
         clauses.push(text.clause(begin));
+        begin = text.len();
     }
     Ok(clauses)
 }

@@ -44,7 +44,8 @@ impl View<'_> {
         Ok(())
     }
 
-    // Puts how many cells there are, and their present terms, once all cells before them are met.
+    // Puts how many cells there are, and their present terms, once all cells before them are met. The writer changes and the view
+    // stays, so that they are two parameters; that the writer's sink is the same reference as before no type says.
     fn write_counted(&self, from: u16, count: u8, writer: &mut Writer) -> Result<(), NoRoom>
         requires inside { from + count ≤ self.now.used }
         requires met { Met self.now from writer.old.numbering }

@@ -16,11 +16,14 @@ pub(crate) struct Text {
 }
 
 impl Model for Text {
+    ghost use Rattle.std.specs.Prelude.{◌≤◌, length};
     ghost use Rattle.machine.specs.Texts.{Text as Bytes};
 
     ghost Value = { Bytes };
 
     ghost view = { λ t. record { bytes = t.bytes.items } };
+
+    ghost invariant = { λ t. length t.bytes.items ≤ 16384 };
 }
 
 impl Text {
@@ -63,14 +66,13 @@ impl Text {
         term_end(self.as_slice(), place)
     }
 
-    // The rest of a pair.
+    // The rest of a pair. It uses the bytes, and not `end`: a text tells its bound where its bytes are used.
     pub(crate) fn rest(&self, pair: TermAt) -> TermAt
-        requires short { length self.now.bytes < 65536 }
-        requires spans { (t : Term) × (q : ℕ) × Spans self.now.bytes (pair.place + 1) t q }
+        requires { (t : Term) × (q : ℕ) × Spans self.now.bytes (pair.place + 1) t q }
         ensures place { (t : Term) (q : ℕ) → Spans self.now.bytes (pair.place + 1) t q → result.place ≡ q }
         ensures level { result.level ≡ pair.level }
     {
-        let place = self.end(pair.place as usize + 1);
+        let place = term_end(self.bytes.as_slice(), pair.place as usize + 1);
         TermAt {
             place: place as u16,
             level: pair.level,
@@ -83,15 +85,14 @@ fn term_end(text: &[u8], place: usize) -> usize
     requires { (t : Term) × (q : ℕ) × Spans text.now place t q }
     ensures { (t : Term) (q : ℕ) → Spans text.now place t q → result ≡ q }
 {
-    let tag = text[place];
-    if tag == ATOM {
-        return place + 3;
+    match text[place] {
+        ATOM => place + 3,
+        VARIABLE => place + 2,
+        _ => {
+            let middle = term_end(text, place + 1);
+            term_end(text, middle)
+        }
     }
-    if tag == VARIABLE {
-        return place + 2;
-    }
-    let middle = term_end(text, place + 1);
-    term_end(text, middle)
 }
 
 // The first part of a pair.

@@ -21,7 +21,8 @@ pub(crate) struct View<'a> {
 impl View<'_> {
     ghost use Rattle.machine.specs.Views.{SeenOver, seen_as};
 
-    // The form of a term: bound cells are looked up.
+    // The form of a term: bound cells are looked up. That a term stands under the view is asked here, in the occurs check and in
+    // writing: a struct of the two would be made anew for each part of a term.
     pub(crate) fn shape(&self, term: TermAt) -> Shape
         requires { SeenOver self.now term }
         ensures { Shows self.now.text.now.bytes self.now.used self.now.cells.now self.now.newest (seen_as self.now term) result }
@@ -30,14 +31,11 @@ impl View<'_> {
         let mut at = term;
         'looking: loop {
             let place = at.place as usize;
-            let tag = text[place];
-            if tag == ATOM {
-                return Shape::Atom(u16::from_be_bytes([text[place + 1], text[place + 2]]));
-            }
-            if tag != VARIABLE {
-                return Shape::Pair(at);
-            }
-            let cell = at.level + u16::from(text[place + 1]);
+            let cell = match text[place] {
+                ATOM => return Shape::Atom(u16::from_be_bytes([text[place + 1], text[place + 2]])),
+                VARIABLE => at.level + u16::from(text[place + 1]),
+                _ => return Shape::Pair(at),
+            };
             match self.cells[cell as usize] {
                 Some(binding) => at = binding.term,
                 None => return Shape::Open(cell),

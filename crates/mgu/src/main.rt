@@ -16,8 +16,8 @@ fn bytes(heap: Global, words: &str) -> anyhow::Result<Vec<u8>> {
 fn print_pair(rt: &HostRuntime, left: &[u8], right: &[u8]) -> anyhow::Result<()> {
     let mut buffer = [0u8; 512];
     match unify_facts(left, right, &mut buffer) {
-        Ok(Some(_)) => {
-            let term = notation::Term(&buffer);
+        Ok(Some(length)) => {
+            let term = notation::Term(&buffer[..length]);
             println!(rt; "{term}")?;
         }
         Ok(None) => println!(rt; "no")?,

@@ -9,12 +9,19 @@ pub mod slips;
 use crate::slips::Slip;
 use resolution::Word;
 
-// Why there is no search, or no slip. Only a fault of reading has a place and a layer.
+// Where a fault of reading stands, and the layer that found it.
+#[derive(Clone, Copy, PartialEq, Eq, Debug)]
+pub struct Position {
+    pub place: usize,
+    pub layer: u8,
+}
+
+// Why there is no search, or no slip.
 #[derive(Clone, Copy, PartialEq, Eq, Debug)]
 pub struct Fault {
     pub number: u8,
-    pub place: Option<usize>,
-    pub layer: Option<u8>,
+    // a fault of reading has one
+    pub position: Option<Position>,
 }
 
 // One outcome of a case. Tries are those of one call of next.

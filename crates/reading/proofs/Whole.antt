@@ -1,5 +1,6 @@
 -- A book read to its end, item by item. Assumes nothing.
-use Rattle.std.proofs.Common.{◌≡◌, ℕ, suc, ◌+◌, ◌-◌, ◌<◌, ◌≤◌, List, [], ◌∷◌, length, drop, Some, None, Ok, Err, Option, Result, sym, refl, ap, ◌∙◌, subst, arith, length-drop}
+use Rattle.std.proofs.Common.{◌≡◌, ℕ, suc, ◌+◌, ◌-◌, ◌<◌, ◌≤◌, List, [], ◌∷◌, length, drop, true, Some, None, Ok, Err, Option, Result, sym, refl, ap, ◌∙◌, subst, arith, length-drop}
+use Rattle.std.specs.Option.{is_some, option_map}
 use Rattle.std.proofs.lemmas.List.{drop-drop}
 use Rattle.grammar.specs.declared.faults.BookFault.{BookFault}
 use Rattle.grammar.specs.Asking.{go}
@@ -66,8 +67,9 @@ told b r e = subst (Follows b) (sym e) (follows b)
 -- ── for the code ──
 
 -- an item was read, and the book stands after it
-pub goes_on : (b d : BookView) (v : ItemView) → Ok (Some v) ≡ shown_first b.place (next_of b) → d ≡ after_item b
+pub goes_on : {A : Type 0} (f : A → ItemView) (b d : BookView) (o : Option A) → true ≡ is_some o → Ok (option_map f o) ≡ shown_first b.place (next_of b) → d ≡ after_item b
     → (rest_count d ≡ rest_count b) × (length d.bytes - d.place < length b.bytes - b.place)
-goes_on b d v e k =
-    let h = told b (Ok (Some v)) e in
+goes_on f b d (Some x) t e k =
+    let h = told b (Ok (Some (f x))) e in
     (ap rest_count k ∙ h.0, subst (λ m. m < length b.bytes - b.place) (ap (λ x. length x.bytes - x.place) (sym k)) h.1)
+goes_on f b d None t e k = cc

@@ -32,20 +32,20 @@ pub struct Book<'a> {
 fn rule_item<'a>(from: &Reader<'a>, rules: u16) -> Result<(Rule<'a>, usize), BookFault>
     ensures { seen sized_rule result ≡ rule_item_shown rules from.now.place (drop 1 from.now.bytes.now) }
 {
-    let header = Header::read(from).map_err(|fault| BookFault::Rule {
+    let in_rule = |fault: RuleFault| BookFault::Rule {
         number: rules,
-        fault: RuleFault::Command(fault),
-    })?;
+        fault,
+    };
+    let header = Header::read(from)
+        .map_err(RuleFault::from)
+        .map_err(&in_rule)?;
     if rules >= MOST_RULES {
         return Err(BookFault::TooManyRules {
             place: from.place,
             number: rules,
         });
     }
-    let rule = header.rule().map_err(|fault| BookFault::Rule {
-        number: rules,
-        fault,
-    })?;
+    let rule = header.rule().map_err(&in_rule)?;
     Ok((rule, HEADER + usize::from(header.size)))
 }
 
@@ -132,6 +132,6 @@ pub fn count_rules(bytes: &[u8]) -> Result<u16, BookFault>
     ensures { result ≡ seen rule_count (grammar_book bytes.now) }
 {
     let mut book = Book::open(bytes)?;
-    while let Some(_) = book.item()? {}
+    while book.item()?.is_some() {}
     Ok(book.rules())
 }

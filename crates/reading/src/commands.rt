@@ -51,7 +51,7 @@ fn command_of(first: u8, operands: &[u8], place: usize, form: Form) -> Result<Co
 }
 
 // How many bytes a command takes.
-fn size_of(command: Command, form: Form) -> usize
+pub fn command_size(command: Command, form: Form) -> u16
     ensures { result ≡ size form command }
 {
     match (command, form) {
@@ -97,7 +97,7 @@ impl<'a> Reader<'a> {
             return Ok(None);
         };
         let command = command_of(*first, operands, self.place, form)?;
-        let size = size_of(command, form);
+        let size = usize::from(command_size(command, form));
         *self = Reader {
             bytes: &self.bytes[size..],
             place: self.place + size,
@@ -113,9 +113,8 @@ impl<'a> Reader<'a> {
         let mut due = usize::from(due);
         while due > 0 {
             let place = self.place;
-            let Some(command) = self.command(form)? else {
-                return Err(RuleFault::TermMissing { place });
-            };
+            let next = self.command(form)?;
+            let command = next.ok_or(RuleFault::TermMissing { place })?;
             match command {
                 Command::Atom(_) => due -= 1,
                 Command::Var(number) => {

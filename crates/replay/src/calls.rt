@@ -1,5 +1,5 @@
 // The calls that a line can ask for.
-use engine::slots::{Reply, Request, Slot};
+use engine::slots::{Request, Slot};
 use std::alloc::{AllocError, Global};
 
 // what fills a buffer before it is written to; `shelve` shows its buffers so too, and a library for one byte would be longer
@@ -44,6 +44,6 @@ pub(crate) fn slot(heap: Global, call: Call) -> Result<Slot, AllocError> {
     Ok(Slot {
         request: call.request,
         buffer: vec![in heap; FILLER; call.room]?,
-        reply: Reply::Open,
+        reply: None,
     })
 }

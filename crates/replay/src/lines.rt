@@ -46,12 +46,12 @@ fn written_line(
 // What a call returned. The calls are a closed set.
 pub(crate) fn reply_line(heap: Global, slot: &Slot) -> Result<String, AllocError> {
     match slot.reply {
-        Reply::Open => String::from_str(heap, "open"),
-        Reply::Next(returned) => next_line(heap, returned),
-        Reply::Rewound => String::from_str(heap, "rewind"),
-        Reply::Tallied(tally) => tally_line(heap, tally),
-        Reply::Held(returned) => hold_line(heap, returned),
-        Reply::Wrote(returned) => {
+        None => String::from_str(heap, "open"),
+        Some(Reply::Next(returned)) => next_line(heap, returned),
+        Some(Reply::Rewound) => String::from_str(heap, "rewind"),
+        Some(Reply::Tallied(tally)) => tally_line(heap, tally),
+        Some(Reply::Held(returned)) => hold_line(heap, returned),
+        Some(Reply::Wrote(returned)) => {
             let name = match slot.request {
                 Request::Slip => "slip",
                 _ => "answer",

@@ -11,7 +11,8 @@ use lines::reply_line;
 use std::fs;
 use stores::rulebooks::{Image, RuleBook};
 
-// The bytes of a file; one that cannot be read counts as empty. `verify` has this line too: a library for it would be longer.
+// The bytes of a file; one that cannot be read counts as empty. Programs that read files have this line each: no contract says
+// what a file holds, and a library for it would be longer.
 fn file(rt: &HostRuntime, name: &str) -> Vec<u8> {
     fs::read(rt, name).unwrap_or_else(|_| Vec::new(rt.alloc()))
 }

@@ -4,11 +4,24 @@ use boards::boards::Board;
 use hexadecimal::{decode, encode};
 use notation::OrDash;
 use std::alloc::{AllocError, Global};
+use std::fmt;
 use stores::stores::Store;
 use stores::writing::write;
 
 // what fills a buffer before it is written to; `replay` shows its buffers so too, and a library for one byte would be longer
 const FILLER: u8 = 0xEE;
+
+// Whether a change of the board was made.
+fn done_line<E: fmt::Display + Drop>(
+    heap: Global,
+    call: &str,
+    done: Result<(), E>,
+) -> Result<String, AllocError> {
+    match done {
+        Ok(()) => format!(in heap; "{call},ok"),
+        Err(fault) => format!(in heap; "{call},refused,{fault}"),
+    }
+}
 
 pub(crate) fn add_line(
     heap: Global,
@@ -18,10 +31,7 @@ pub(crate) fn add_line(
     let Some(rule) = decode(heap, digits.as_bytes())? else {
         return String::from_str(heap, "unknown");
     };
-    match board.add(rule.as_slice()) {
-        Ok(()) => String::from_str(heap, "add,ok"),
-        Err(fault) => format!(in heap; "add,refused,{fault}"),
-    }
+    done_line(heap, "add", board.add(rule.as_slice()))
 }
 
 pub(crate) fn remove_line(
@@ -29,10 +39,7 @@ pub(crate) fn remove_line(
     board: &mut Board,
     rule: u16,
 ) -> Result<String, AllocError> {
-    match board.remove(rule) {
-        Ok(()) => String::from_str(heap, "remove,ok"),
-        Err(fault) => format!(in heap; "remove,refused,{fault}"),
-    }
+    done_line(heap, "remove", board.remove(rule))
 }
 
 // What a store answers. The questions are a closed set.
@@ -50,6 +57,7 @@ pub(crate) fn answer_line<S: Store>(
             let size = OrDash(store.size(rule));
             format!(in heap; "size,{size}")
         }
+        // in two digits, which `OrDash` would not keep
         Question::Byte(rule, at) => match store.byte(rule, at) {
             Some(byte) => format!(in heap; "byte,{byte:02X}"),
             None => String::from_str(heap, "byte,-"),

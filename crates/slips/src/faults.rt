@@ -91,7 +91,7 @@ impl From<SingleFault> for CheckFault {
     }
 }
 
-// As in the faults of reading, number, place and layer have a match each: what they share is one line of each.
+// As in the faults of reading, number, place and layer have a match each: under one trait the matches would be the same.
 impl OpeningFault {
     pub fn number(&self) -> u8
         ensures { result ≡ opening_number self.now }

@@ -11,7 +11,7 @@ use reading::books::{Book, Item};
 
 const PLACES: usize = MOST_RULES as usize;
 
-// The places of the first rules of a book. An `ArrayVec` would keep a `RuleBook` from being `Copy`.
+// The places of the first rules of a book. Callers are promised that a `RuleBook` is `Copy`, which an `ArrayVec` is not.
 #[derive(Clone, Copy)]
 pub(crate) struct Begins {
     count: u16,

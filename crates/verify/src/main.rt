@@ -2,7 +2,7 @@
 #![tactic(auto)]
 
 use checker::check;
-use notation::OrDash;
+use checker::verdicts::Verdict;
 use std::alloc::{AllocError, Global};
 use std::fs;
 use stores::rulebooks::{Image, RuleBook};
@@ -14,16 +14,11 @@ fn verdict(heap: Global, book: &[u8], query: &[u8], slip: &[u8]) -> Result<Strin
         Ok(store) => store,
         Err(fault) => return format!(in heap; "refused,{fault},-"),
     };
-    match check(&store, query, slip) {
-        Ok(()) => String::from_str(heap, "passed"),
-        Err(fault) => {
-            let steps = OrDash(fault.steps());
-            format!(in heap; "refused,{fault},{steps}")
-        }
-    }
+    Verdict(check(&store, query, slip)).to_string(heap)
 }
 
-// The bytes of a file; one that cannot be read counts as empty. `replay` has this line too: a library for it would be longer.
+// The bytes of a file; one that cannot be read counts as empty. Programs that read files have this line each: no contract says
+// what a file holds, and a library for it would be longer.
 fn file(rt: &HostRuntime, name: &str) -> Vec<u8> {
     fs::read(rt, name).unwrap_or_else(|_| Vec::new(rt.alloc()))
 }

@@ -33,8 +33,8 @@ settle-requires c =
     let t = c.load-tables.result in
     let l = c.load-tables.ensures in
     record {
-      ready = both_ready a b t.text.bytes t.cells l.goal l.head l.size l.many l.free l.used l.newest;
-      few = both_few a b t.text.bytes t.cells l.goal l.head l.size l.many l.free l.used l.newest;
+      ready = both_ready a b t.text.bytes t.cells l.text l.many l.free l.used l.newest;
+      few = both_few a b t.text.bytes t.cells l.text l.many l.free l.used l.newest;
     }
 
 pub returns : goal.returns
@@ -43,7 +43,7 @@ returns c =
     let b = right_fact (goal.at.returns c).In_ok-fact in
     let t = c.load-tables.result in
     let l = c.load-tables.ensures in
-    let is = both_common a b t.text.bytes t.cells l.goal l.head l.size l.many l.free l.used l.newest in
+    let is = both_common a b t.text.bytes t.cells l.text l.many l.free l.used l.newest in
     record {
       result =
           c.settle.ensures.told

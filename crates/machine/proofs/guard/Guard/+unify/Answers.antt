@@ -69,13 +69,13 @@ pub rest-s-requires : goal.rest-s-requires
 rest-s-requires t c =
     let k = c.rests.self in
     let a = split c.rests.invariant.sound (shown_as c.args.text.now.bytes k (means c.args.text.now.bytes k c.rests.s) c.shape-one.ensures c.in-Pair.is) in
-    record { short = c.rests.invariant.sound.short; spans = (_, a.mid, a.spans) }
+    (_, a.mid, a.spans)
 
 pub rest-t-requires : goal.rest-t-requires
 rest-t-requires t c =
     let k = c.rests.self in
     let b = split c.rests.invariant.sound (shown_as c.args.text.now.bytes k (means c.args.text.now.bytes k c.rests.t) c.shape-other.ensures c.in-Pair-other.is) in
-    record { short = c.rests.invariant.sound.short; spans = (_, b.mid, b.spans) }
+    (_, b.mid, b.spans)
 
 pub returns-then-not-unify : goal.returns-then-not-unify
 returns-then-not-unify t c =

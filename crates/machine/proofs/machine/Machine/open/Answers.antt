@@ -1,4 +1,4 @@
-use Rattle.std.proofs.Common.{◌≡◌, ℕ, ◌≤◌, List, ◌++◌, length, length-append, None, Ok, sym, refl, ap, ap₂, ◌∙◌, arith, rules}
+use Rattle.std.proofs.Common.{◌≡◌, ℕ, ◌≤◌, List, ◌++◌, length, None, Ok, sym, refl, ap, ap₂, ◌∙◌, arith, rules}
 use Rattle.terms.specs.Terms.{Rule, Query}
 use Rattle.resolution.specs.Search.{opened}
 use Rattle.slips.specs.Opening.{rules_in, opening}
@@ -11,12 +11,7 @@ use Rattle.machine.proofs.machine.Machine.open.Goals.{After-new-2}
 use Rattle.machine.proofs.machine.Machine.open.Given.{Over}
 
 pub gather-requires : goal.gather-requires
-gather-requires g c =
-    let a = asked_of c.args.query.now (query_view c.in_ok-asked.asked) (known _ c.type_inv.query) c.in_ok-asked.ensures in
-    record {
-      few = omega (arith, c.count.ensures, c.if-count-gt-MOST_RULES.false);
-      size = omega (arith, ap length c.append.ensures, ap length c.new-text.ensures, length-append c.new-text.result.bytes c.args.query.now, a.short);
-    }
+gather-requires g c = omega (arith, c.count.ensures, c.if-count-gt-MOST_RULES.false)
 
 module _ (g : Over) (c : After-new-2 g) where
   -- the rules of the store, the bytes of the query, and the query that was read

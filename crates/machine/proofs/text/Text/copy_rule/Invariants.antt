@@ -1,7 +1,9 @@
-use Rattle.std.proofs.Common.{◌≡◌, ◌≤◌, ◌++◌, [], length, get_or, take}
+use Rattle.std.proofs.Common.{[], get_or}
+use Rattle.stores.specs.Answers.{bytes_from}
+use Rattle.machine.proofs.Openings.{Laying}
 use Rattle.machine.proofs.text.Text.copy_rule.Given as goal
 
-abbrev pub invariant-loop-at : goal.invariant-loop-at
-invariant-loop-at g l =
-    (length l.self-inside.bytes.items ≤ 16384)
-    × (l.self-inside.bytes.items ≡ l.initial.self-inside.bytes.items ++ take l.at (get_or (g.S.Store.rules l.store) l.rule []))
+abbrev pub invariant-loop-byte : goal.invariant-loop-byte
+invariant-loop-byte g l =
+    let it = l.byte-iterator in
+    Laying l.initial.self-inside.bytes.items (get_or (g.S.Store.rules l.store) l.rule []) l.yielded (bytes_from (g.S.Store.rules it.store.now) it.rule it.at) l.self-inside.bytes.items

@@ -21,7 +21,7 @@ returns-then-occurs t c =
 
 pub rest-at-requires : goal.rest-at-requires
 rest-at-requires t c =
-    let a = split (seen_sound c.args.self.now) c.in-Pair.ensures in record { short = (seen_sound c.args.self.now).short; spans = (_, a.mid, a.spans) }
+    let a = split (seen_sound c.args.self.now) c.in-Pair.ensures in (_, a.mid, a.spans)
 
 pub rests-smaller : goal.rests-smaller
 rests-smaller t c =

@@ -18,43 +18,43 @@ cell_at {bs} {text} {b} cells l p n e m h =
 pub bounds-text-place : goal.bounds-text-place
 bounds-text-place c = let i = inside _ _ _ _ c.looking.invariant.0.spans in search rules
 
-pub bounds-text-place-then-tag-eq-ATOM : goal.bounds-text-place-then-tag-eq-ATOM
-bounds-text-place-then-tag-eq-ATOM c = let i = (stands_atom c.looking.invariant.0 (at _ c.as_slice-text.ensures c.if-tag-eq-ATOM.true)).0 in search rules
+pub bounds-text-place-in-1 : goal.bounds-text-place-in-1
+bounds-text-place-in-1 c = let i = (stands_atom c.looking.invariant.0 (at _ c.as_slice-text.ensures c.in-1.is)).0 in search rules
 
-pub bounds-text-place-then-tag-eq-ATOM-2 : goal.bounds-text-place-then-tag-eq-ATOM-2
-bounds-text-place-then-tag-eq-ATOM-2 c = let i = (stands_atom c.looking.invariant.0 (at _ c.as_slice-text.ensures c.if-tag-eq-ATOM.true)).0 in search rules
+pub bounds-text-place-in-1-2 : goal.bounds-text-place-in-1-2
+bounds-text-place-in-1-2 c = let i = (stands_atom c.looking.invariant.0 (at _ c.as_slice-text.ensures c.in-1.is)).0 in search rules
 
-pub returns-then-tag-eq-ATOM : goal.returns-then-tag-eq-ATOM
-returns-then-tag-eq-ATOM c =
+pub returns-in-1 : goal.returns-in-1
+returns-in-1 c =
     let text = c.args.self.now.text.now.bytes in
     let p = c.looking.at.place in
     let e : get_or text (p + 1) 0 * 256 + get_or text (p + 2) 0 ≡ c.from_be_bytes.result = omega (arith, c.from_be_bytes.ensures, ap (λ (x : List ℕ). get_or x (p + 1) 0) c.as_slice-text.ensures, ap (λ (x : List ℕ). get_or x (p + 2) 0) c.as_slice-text.ensures) in
-    sym c.looking.invariant.1 ∙ form_atom (seen_sound c.args.self.now) c.looking.invariant.0 (at _ c.as_slice-text.ensures c.if-tag-eq-ATOM.true) ∙ ap atom e
+    sym c.looking.invariant.1 ∙ form_atom (seen_sound c.args.self.now) c.looking.invariant.0 (at _ c.as_slice-text.ensures c.in-1.is) ∙ ap atom e
 
-pub bounds-text-place-in-looking : goal.bounds-text-place-in-looking
-bounds-text-place-in-looking c = let i = (stands_variable c.looking.invariant.0 (at _ c.as_slice-text.ensures c.if-tag-ne-VARIABLE.false)).0 in search rules
+pub bounds-text-place-in-2 : goal.bounds-text-place-in-2
+bounds-text-place-in-2 c = let i = (stands_variable c.looking.invariant.0 (at _ c.as_slice-text.ensures c.in-2.is)).0 in search rules
 
 pub overflow_add-cell : goal.overflow_add-cell
 overflow_add-cell c =
     let m : c.from.result ≡ get_or c.as_slice-text.result.now (c.looking.at.place + 1) 0 = c.from.ensures in
-    let v = stands_variable c.looking.invariant.0 (at _ c.as_slice-text.ensures c.if-tag-ne-VARIABLE.false) in let r = (seen_sound c.args.self.now).room in let f = (seen_sound c.args.self.now).few in search rules
+    let v = stands_variable c.looking.invariant.0 (at _ c.as_slice-text.ensures c.in-2.is) in let r = (seen_sound c.args.self.now).room in let f = (seen_sound c.args.self.now).few in search rules
 
 pub bounds : goal.bounds
-bounds c = omega (arith, c.from.ensures, ap (λ (x : List ℕ). get_or x (c.looking.at.place + 1) 0) c.as_slice-text.ensures, (stands_variable c.looking.invariant.0 (at _ c.as_slice-text.ensures c.if-tag-ne-VARIABLE.false)).2, (seen_sound c.args.self.now).room)
+bounds c = omega (arith, c.from.ensures, ap (λ (x : List ℕ). get_or x (c.looking.at.place + 1) 0) c.as_slice-text.ensures, (stands_variable c.looking.invariant.0 (at _ c.as_slice-text.ensures c.in-2.is)).2, (seen_sound c.args.self.now).room)
 
 pub returns-in-None : goal.returns-in-None
 returns-in-None c =
     let free_cell = cell_at c.args.self.now.cells.now c.looking.at.level c.looking.at.place c.from.result c.as_slice-text.ensures c.from.ensures c.in-None.is in
     rw c.from.ensures (rw c.as_slice-text.ensures (
-      (stands_variable c.looking.invariant.0 (at _ c.as_slice-text.ensures c.if-tag-ne-VARIABLE.false)).2,
+      (stands_variable c.looking.invariant.0 (at _ c.as_slice-text.ensures c.in-2.is)).2,
       free_cell,
-      sym c.looking.invariant.1 ∙ form_free (seen_sound c.args.self.now) c.looking.invariant.0 (at _ c.as_slice-text.ensures c.if-tag-ne-VARIABLE.false) free_cell,
+      sym c.looking.invariant.1 ∙ form_free (seen_sound c.args.self.now) c.looking.invariant.0 (at _ c.as_slice-text.ensures c.in-2.is) free_cell,
     ))
 
 pub looking-smaller : goal.looking-smaller
 looking-smaller c =
-    let b = form_bound (seen_sound c.args.self.now) _ c.looking.invariant.0 (at _ c.as_slice-text.ensures c.if-tag-ne-VARIABLE.false) (cell_at c.args.self.now.cells.now c.looking.at.level c.looking.at.place c.from.result c.as_slice-text.ensures c.from.ensures c.in-Some.is) in b.less
+    let b = form_bound (seen_sound c.args.self.now) _ c.looking.invariant.0 (at _ c.as_slice-text.ensures c.in-2.is) (cell_at c.args.self.now.cells.now c.looking.at.level c.looking.at.place c.from.result c.as_slice-text.ensures c.from.ensures c.in-Some.is) in b.less
 
 pub looking-preserved : goal.looking-preserved
 looking-preserved c =
-    let b = form_bound (seen_sound c.args.self.now) _ c.looking.invariant.0 (at _ c.as_slice-text.ensures c.if-tag-ne-VARIABLE.false) (cell_at c.args.self.now.cells.now c.looking.at.level c.looking.at.place c.from.result c.as_slice-text.ensures c.from.ensures c.in-Some.is) in (b.stands, b.means ∙ c.looking.invariant.1)
+    let b = form_bound (seen_sound c.args.self.now) _ c.looking.invariant.0 (at _ c.as_slice-text.ensures c.in-2.is) (cell_at c.args.self.now.cells.now c.looking.at.level c.looking.at.place c.from.result c.as_slice-text.ensures c.from.ensures c.in-Some.is) in (b.stands, b.means ∙ c.looking.invariant.1)
