@@ -77,7 +77,8 @@ pub(crate) fn parse(line: &str) -> Option<Op<'_>> {
     if line == "count" {
         return Some(Op::Ask(Question::Count));
     }
-    // `ok().map(Op::Choose)` was tried: the check does not cover a variant passed to `map` whose enum has a lifetime
+    // `ok().map(Op::Choose)` was tried: the check does not cover a function passed to `map` whose result names a lifetime that
+    // its argument does not
     match line.parse() {
         Ok(choice) => Some(Op::Choose(choice)),
         Err(NoChoice) => with_operands(line),
