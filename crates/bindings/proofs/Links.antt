@@ -1,5 +1,5 @@
 -- The trail that is read off the cells: its bindings, its marks, one binding more. Assumes nothing.
-use Rattle.std.proofs.Common.{◌≡◌, ℕ, zero, suc, ◌+◌, ◌<◌, ◌≤◌, false, ◌≢◌, List, [], ◌∷◌, length, get_or, set, replicate, sym, refl, ap, ◌∙◌, subst, ap₂, inl, inr, arith, ne_eqb, length-set, get_or-set_other, get_or-set_same, Some, None}
+use Rattle.std.proofs.Common.{◌≡◌, ℕ, zero, suc, ◌+◌, ◌++◌, ◌<◌, ◌≤◌, false, ◌≢◌, List, [], ◌∷◌, length, get_or, set, replicate, sym, refl, ap, ◌∙◌, subst, ap₂, inl, inr, arith, ne_eqb, length-set, get_or-set_other, get_or-set_same, Some, None}
 use Rattle.std.proofs.lemmas.Bool.{cases_eq}
 use Rattle.std.proofs.lemmas.Option.{none-some}
 use Rattle.terms.specs.Terms.{Term, var}
@@ -234,6 +234,26 @@ module _ {text : List ℕ} {n : ℕ} {cs : List Cell} {h : ℕ} (sound : Sound t
 
 -- ── marks ──
 
+-- Back at a mark the bindings are those of the mark, which the later ones stand before.
+pub record Older (text : List ℕ) (n : ℕ) (L : Trail) (was : List Cell) (m : ℕ) : Type 0 where
+  pub newer : Trail
+  pub older : Trail
+  pub is : L ≡ newer ++ older
+  pub linked : Linked text n was m older
+
+back_older : (text : List ℕ) (n k : ℕ) (was : List Cell) (m : ℕ) (cs : List Cell) (h : ℕ) (L : Trail) → Back k was m cs h → Linked text n cs h L → Older text n L was m
+unfolding Back Linked
+back_older text n zero was m cs h L b e =
+    record { newer = []; older = L; is = refl; linked = subst (λ (ds : List Cell). Linked text n ds m L) b.0 (subst (λ (x : ℕ). Linked text n cs x L) b.1 e) }
+back_older text n (suc k) was m cs h [] b e = absurd (none-some b.2.0 (sym (e.1 h) ∙ b.2.1))
+back_older text n (suc k) was m cs h (p ∷ L) b e =
+    let link = e.0 in
+    let i = link.is in
+    let j = b.2.1 in
+    let q : link.binding.before ≡ b.2.0.before = cc in
+    let o = back_older text n k was m (set cs h None) b.2.0.before L b.2.2 (subst (λ (x : ℕ). Linked text n (set cs h None) x L) q e.2) in
+    record { newer = p ∷ o.newer; older = o.older; is = ap (λ (M : Trail). p ∷ M) o.is; linked = o.linked }
+
 back_length : (k : ℕ) (was : List Cell) (m : ℕ) (cs : List Cell) (h : ℕ) → Back k was m cs h → length was ≡ length cs
 unfolding Back
 back_length zero was m cs h b = ap length (sym b.0)
@@ -242,3 +262,24 @@ back_length (suc k) was m cs h b = back_length k was m (set cs h None) b.2.0.bef
 -- There are as many cells at a mark.
 pub since_length : {was : List Cell} {m : ℕ} {cs : List Cell} {h : ℕ} → Since was m cs h → length was ≡ length cs
 since_length {was} {m} {cs} {h} s = back_length s.links was m cs h s.chain
+
+-- The cells at a mark are in order.
+pub since_sound : (text : List ℕ) (n : ℕ) (was : List Cell) (m : ℕ) (cs : List Cell) (h : ℕ) → Since was m cs h → Sound text n cs h → Sound text n was m
+since_sound text n was m cs h s g =
+    let l = back_length s.links was m cs h s.chain in
+    let o = back_older text n s.links was m cs h (trail text cs h) s.chain g.linked in
+    let r : n ≤ length was = omega (arith, g.room) in
+    record {
+      short = g.short;
+      room = r;
+      few = omega (arith, g.few);
+      linked = subst (λ (M : Trail). Linked text n was m M) (sym (linked_trail text n o.older was m r o.linked)) o.linked;
+    }
+
+-- The trail at a mark is the last part of the trail now.
+pub since_suffix : (text : List ℕ) (n : ℕ) (was : List Cell) (m : ℕ) (cs : List Cell) (h : ℕ) → Since was m cs h → Sound text n cs h
+    → (newer : Trail) × (trail text cs h ≡ newer ++ trail text was m)
+since_suffix text n was m cs h s g =
+    let l = back_length s.links was m cs h s.chain in
+    let o = back_older text n s.links was m cs h (trail text cs h) s.chain g.linked in
+    (o.newer, (o.is ∙ ap (λ (M : Trail). o.newer ++ M) (sym (linked_trail text n o.older was m (omega (arith, g.room)) o.linked))))

@@ -3,9 +3,9 @@ use Rattle.std.proofs.Common.{◌≡◌, ℕ, zero, suc, ◌+◌, ◌-◌, ◌<�
 use lib.ListN.{length-map}
 use Rattle.std.proofs.lemmas.List.{take-map, drop-map}
 use Rattle.terms.specs.Terms.{Term, var, atom, pair}
-use Rattle.unification.specs.Variables.{shifted}
+use Rattle.unification.specs.Variables.{shifted, Within}
 use Rattle.unification.specs.Substitutions.{Substitution, apply}
-use Rattle.resolution.specs.Cells.{fresh}
+use Rattle.resolution.specs.Cells.{fresh, cell, present}
 use Rattle.resolution.proofs.Cells.{fresh_length, stepped, map-append}
 use Rattle.bindings.specs.Cells.{Cell}
 use Rattle.bindings.specs.Meanings.{Trail, meaning}
@@ -13,6 +13,17 @@ use Rattle.bindings.specs.Trails.{trail, Sound}
 use Rattle.bindings.specs.Presents.{presents}
 use Rattle.bindings.proofs.Meanings.{meaning_atom, meaning_pair}
 use Rattle.bindings.proofs.Links.{sound_free, sound_unused}
+
+cell_meaning : (L : Trail) (n m k : ℕ) → k < m → cell (map (meaning L) (fresh n m)) k ≡ meaning L (var (n + k))
+cell_meaning L n zero k h = absurd (omega (arith, h))
+cell_meaning L n (suc m) zero h = ap (λ (x : ℕ). meaning L (var x)) (omega arith)
+cell_meaning L n (suc m) (suc k) h = cell_meaning L (suc n) m k (omega (arith, h)) ∙ ap (λ (x : ℕ). meaning L (var x)) (omega arith)
+
+-- A term over cells in use has their present terms as its meaning.
+pub present_meaning : (L : Trail) (n : ℕ) (t : Term) → Within n t → present (presents L n) t ≡ meaning L t
+present_meaning L n (var k) h = cell_meaning L 0 n k h ∙ ap (λ (x : ℕ). meaning L (var x)) (omega arith)
+present_meaning L n (atom a) h = sym (meaning_atom L a)
+present_meaning L n (pair s t) h = ap₂ pair (present_meaning L n s h.0) (present_meaning L n t h.1) ∙ sym (meaning_pair L s t)
 
 pub presents_length : (L : Trail) (n : ℕ) → length (presents L n) ≡ n
 presents_length L n = length-map (fresh 0 n) (meaning L) ∙ fresh_length 0 n

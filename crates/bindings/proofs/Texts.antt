@@ -129,6 +129,12 @@ pub stands_size : {text : List ℕ} {n p l : ℕ} → Stands text n p l → size
 stands_size {text} {n} {p} {l} s =
     let i = inside text p (tree text p) s.end s.spans in omega (arith, shifted_size l (tree text p))
 
+-- What stands with its variables below n, stands.
+pub stands_of : (text : List ℕ) (n p l : ℕ) (t : Term) (q : ℕ) → Spans text p t q → Within n (shifted l t) → Stands text n p l
+stands_of text n p l t q h b =
+    let e : t ≡ tree text p = sym (spans_tree text p t q h) in
+    record { end = q; spans = subst (λ (s : Term). Spans text p s q) e h; within = subst (λ (s : Term). Within n (shifted l s)) e b }
+
 -- What stands over some cells stands over more.
 pub stands_more : {text : List ℕ} {n m p l : ℕ} → n ≤ m → Stands text n p l → Stands text m p l
 stands_more {text} {n} {m} {p} {l} h s = record { end = s.end; spans = s.spans; within = within_more n m h (term text p l) s.within }

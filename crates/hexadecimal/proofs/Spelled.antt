@@ -1,10 +1,64 @@
--- Digits as the library reads and writes them. Assumes nothing.
-use Rattle.std.proofs.Common.{◌≡◌, ℕ, zero, suc, ◌+◌, ◌*◌, ◌/◌, ◌%◌, ◌<◌, ◌==◌, Bool, true, false, ◌&&◌, cond, eqb, List, [], ◌∷◌, length, get_or, slice_index, Some, None, Ok, Err, Option, Result, ◌⊎◌, inl, inr, refl, sym, ap, ◌∙◌, arith, w8, Fits}
+-- Digits read one byte at a time, and written as the library writes them. Assumes nothing.
+use Rattle.std.proofs.Common.{◌≡◌, ℕ, zero, suc, ◌+◌, ◌-◌, ◌*◌, ◌/◌, ◌%◌, ◌<◌, ◌≤◌, ◌==◌, Bool, true, ◌&&◌, List, [], ◌∷◌, ◌++◌, length, get_or, slice_index, take, drop, Some, None, Option, inl, inr, refl, sym, ap, ◌∙◌, append_assoc, append-nil, arith, w8, Fits}
 use Rattle.std.proofs.lemmas.Bool.{and_parts, cases_lt, eqb-true}
-use Rattle.hex.specs.Hex.{◌>>=◌, hex_digit_value, digit_or_error, decode_pairs, decode_of, encode_with, encode_upper, upper_digits}
-use Rattle.hex.specs.declared.error.FromHexError.{FromHexError}
-use Rattle.hex.specs.declared.error.FromHexError.TheVariants.{OddLength, OutOfMemory}
+use Rattle.std.proofs.lemmas.List.{take_rest}
+use Rattle.hex.specs.Hex.{encode_with, encode_upper, upper_digits}
 use Rattle.hexadecimal.specs.Digits.{digit_value, digit_letter, with_byte, decoded, encoded}
+
+-- ── reading ──
+
+-- the bytes so far, and then what the rest spells
+abbrev pub onward : List ℕ → Option (List ℕ) → Option (List ℕ)
+onward done (Some bs) = Some (done ++ bs)
+onward done None = None
+
+pub starts : (cs : List ℕ) → onward [] (decoded cs) ≡ decoded cs
+starts cs = by (decoded cs)
+  where
+    by : (o : Option (List ℕ)) → onward [] o ≡ o
+    by (Some bs) = refl
+    by None = refl
+
+push : (done : List ℕ) (h l : ℕ) (o : Option (List ℕ)) → onward (done ++ (h * 16 + l) ∷ []) o ≡ onward done (with_byte (Some h) (Some l) o)
+push done h l (Some bs) = ap Some (append_assoc done ((h * 16 + l) ∷ []) bs)
+push done h l None = refl
+
+-- the first two letters and what follows them
+front : (cs : List ℕ) → 2 ≤ length cs → decoded cs ≡ with_byte (digit_value (get_or cs 0 0)) (digit_value (get_or cs 1 0)) (decoded (drop 2 cs))
+front [] l = absurd (omega arith)
+front (c ∷ []) l = absurd (omega arith)
+front (c ∷ d ∷ cs) l = refl
+
+pub one_more : (done cs : List ℕ) (h l : ℕ) → 2 ≤ length cs → Some h ≡ digit_value (get_or cs 0 0) → Some l ≡ digit_value (get_or cs 1 0)
+    → onward (done ++ (h * 16 + l) ∷ []) (decoded (take (length cs - 2) (drop 2 cs))) ≡ onward done (decoded cs)
+one_more done cs h l n i j =
+    ap (λ xs. onward (done ++ (h * 16 + l) ∷ []) (decoded xs)) (take_rest cs 2)
+    ∙ push done h l (decoded (drop 2 cs))
+    ∙ ap (onward done) (ap (λ x. with_byte x (Some l) (decoded (drop 2 cs))) i ∙ ap (λ x. with_byte (digit_value (get_or cs 0 0)) x (decoded (drop 2 cs))) j ∙ sym (front cs n))
+
+pub no_high : (done cs : List ℕ) → 2 ≤ length cs → None ≡ digit_value (get_or cs 0 0) → None ≡ onward done (decoded cs)
+no_high done cs n i = ap (λ x. onward done (with_byte x (digit_value (get_or cs 1 0)) (decoded (drop 2 cs)))) i ∙ ap (onward done) (sym (front cs n))
+
+pub no_low : (done cs : List ℕ) (h : ℕ) → 2 ≤ length cs → Some h ≡ digit_value (get_or cs 0 0) → None ≡ digit_value (get_or cs 1 0) → None ≡ onward done (decoded cs)
+no_low done cs h n i j =
+    ap (λ x. onward done (with_byte (Some h) x (decoded (drop 2 cs)))) j
+    ∙ ap (λ x. onward done (with_byte x (digit_value (get_or cs 1 0)) (decoded (drop 2 cs)))) i
+    ∙ ap (onward done) (sym (front cs n))
+
+pub ends : (done cs : List ℕ) → length cs ≡ 0 → Some done ≡ onward done (decoded cs)
+ends done [] e = ap Some (sym (append-nil done))
+ends done (c ∷ cs) e = absurd (omega arith)
+
+none_more : (x y : Option ℕ) → with_byte x y None ≡ None
+none_more (Some h) (Some l) = refl
+none_more (Some h) None = refl
+none_more None y = refl
+
+-- Where the number of letters is odd, one is left over.
+pub ends_odd : (cs : List ℕ) → (length cs % 2 ≡ 0 → ⊥) → None ≡ decoded cs
+ends_odd [] n = absurd (n refl)
+ends_odd (c ∷ []) n = refl
+ends_odd (h ∷ l ∷ cs) n = sym (none_more (digit_value h) (digit_value l)) ∙ ap (with_byte (digit_value h) (digit_value l)) (ends_odd cs (λ e. n (omega (arith, e))))
 
 -- ── a test of all numbers below a bound, which computes ──
 
@@ -21,72 +75,10 @@ at p (suc n) k h l =
       | inr top ↦ let e : k ≡ n = omega arith in ap p e ∙ parts.0
     ]
 
--- ── reading ──
-
-abbrev same : Option ℕ → Option ℕ → Bool
-same (Some a) (Some b) = a == b
-same (Some a) None = false
-same None (Some b) = false
-same None None = true
-
-same_is : (x y : Option ℕ) → same x y ≡ true → x ≡ y
-same_is (Some a) (Some b) e = ap Some (eqb-true a b e)
-same_is (Some a) None e = let z : ◌≡◌ {A = ℕ} 0 1 = cc in absurd (omega arith)
-same_is None (Some b) e = let z : ◌≡◌ {A = ℕ} 0 1 = cc in absurd (omega arith)
-same_is None None e = refl
-
-value : (c : ℕ) → c < 256 → hex_digit_value c ≡ digit_value c
-value c l = same_is _ _ (at (λ n. same (hex_digit_value n) (digit_value n)) 256 c refl l)
-
--- what was read, or nothing
-abbrev pub read : Result (List ℕ) FromHexError → Option (List ℕ)
-read (Ok bs) = Some bs
-read (Err e) = None
+-- ── writing ──
 
 abbrev AreBytes : List ℕ → Type 0
 AreBytes bs = (i : ℕ) → Fits w8 (get_or bs i 0)
-
-pairs : (i : ℕ) (cs : List ℕ) → AreBytes cs → read (decode_pairs i cs) ≡ decoded cs
-unfolding decode_pairs
-pairs i [] a = refl
-pairs i (c ∷ []) a = refl
-pairs i (h ∷ l ∷ cs) a =
-    by (hex_digit_value h) (hex_digit_value l) (decode_pairs (i + 2) cs)
-    ∙ (λ k. with_byte (value h (a 0).fits k) (value l (a 1).fits k) (pairs (i + 2) cs (λ j. a (suc (suc j))) k))
-  where
-    by : (x y : Option ℕ) (r : Result (List ℕ) FromHexError)
-        → read ((digit_or_error h i x >>= (λ a. digit_or_error l (i + 1) y >>= (λ b. Ok (a * 16 + b)))) >>= (λ b. r >>= (λ bs. Ok (b ∷ bs)))) ≡ with_byte x y (read r)
-    by (Some a) (Some b) (Ok bs) = refl
-    by (Some a) (Some b) (Err e) = refl
-    by (Some a) None r = refl
-    by None y r = refl
-
-none_more : (x y : Option ℕ) → with_byte x y None ≡ None
-none_more (Some h) (Some l) = refl
-none_more (Some h) None = refl
-none_more None y = refl
-
-odd : (cs : List ℕ) → length cs % 2 ≡ 1 → None ≡ decoded cs
-odd [] e = let z : ◌≡◌ {A = ℕ} 0 1 = e in absurd (omega arith)
-odd (c ∷ []) e = refl
-odd (h ∷ l ∷ cs) e = sym (none_more (digit_value h) (digit_value l)) ∙ ap (with_byte (digit_value h) (digit_value l)) (odd cs (omega (arith, e)))
-
-whole : (cs : List ℕ) → AreBytes cs → read (decode_of cs) ≡ decoded cs
-whole cs a = by (eqb (length cs % 2) 1) refl
-  where
-    by : (t : Bool) → eqb (length cs % 2) 1 ≡ t → read (cond t (Err OddLength) (decode_pairs 0 cs)) ≡ decoded cs
-    by true e = odd cs (eqb-true (length cs % 2) 1 e)
-    by false e = pairs 0 cs a
-
-pub spelled : (cs bs : List ℕ) → AreBytes cs → decode_of cs ≡ Ok bs → Some bs ≡ decoded cs
-spelled cs bs a e = sym (ap read e) ∙ whole cs a
-
--- refused, and not for want of memory
-pub refused : (cs : List ℕ) (e : FromHexError) → AreBytes cs → (e ≡ OutOfMemory) ⊎ (decode_of cs ≡ Err e) → (e ≡ OutOfMemory → ⊥) → None ≡ decoded cs
-refused cs e a (inl o) n = absurd (n o)
-refused cs e a (inr h) n = sym (ap read h) ∙ whole cs a
-
--- ── writing ──
 
 letter : (k : ℕ) → k < 16 → slice_index upper_digits k ≡ digit_letter k
 letter k l = eqb-true _ _ (at (λ n. slice_index upper_digits n == digit_letter n) 16 k refl l)

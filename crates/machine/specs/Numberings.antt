@@ -1,5 +1,5 @@
 -- Terms written under the names that a numbering gives. Assumes nothing.
-use Rattle.std.specs.Prelude.{◌≡◌, ℕ, ◌≤◌, List, [], ◌∷◌, map, length, take, IfOk, Result}
+use Rattle.std.specs.Prelude.{◌≡◌, ℕ, zero, suc, ◌≤◌, List, [], ◌∷◌, map, length, take, IfOk, Result, Some, None, Option}
 use Rattle.terms.specs.declared.Form.TheVariants.{Slips}
 use Rattle.terms.specs.Terms.{Term, var}
 use Rattle.terms.specs.Bytes.{encodings}
@@ -15,11 +15,16 @@ use Rattle.machine.specs.declared.sink.NoRoom.{NoRoom}
 use Rattle.machine.specs.declared.view.View.{View}
 use Rattle.machine.specs.Sinks.{Puts}
 
+-- the number that an entry of the table gives its cell: 0 stands for none
+abbrev pub number_of : ℕ → Option ℕ
+number_of zero = None
+number_of (suc n) = Some n
+
 abbrev pub NamedSo : Numbering → ℕ → Names → Type 0
 NamedSo ByCell used own = used ≤ 256
 NamedSo ByCell used (by_first xs) = ⊥
 NamedSo (ByFirst u) used own = ⊥
-NamedSo (ByFirst u) used (by_first xs) = Numbers u.numbers u.met used xs
+NamedSo (ByFirst u) used (by_first xs) = Numbers (map number_of u.numbers) u.met used xs
 
 -- the numbering names the cells in use so
 pub record Named (n : Numbering) (used : ℕ) (ns : Names) : Type 0 where

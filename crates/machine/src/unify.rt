@@ -56,7 +56,9 @@ impl Guard<'_> {
         self.view(text).shape(term)
     }
 
-    // The free cell takes the term, unless it occurs in it.
+    // The free cell takes the term, unless it occurs in it. Inside `unify`, which would otherwise take it in, the view that it
+    // lends would have room in the frame of every first part.
+    #[inline(never)]
     fn assign(&mut self, text: &Text, cell: u16, term: TermAt) -> bool
         requires sound { InOrder text.now.bytes self.old }
         requires stands { Over text.now.bytes self.old term }

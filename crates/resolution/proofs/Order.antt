@@ -62,6 +62,11 @@ later_trans (a ∷ A) (b ∷ B) (c ∷ C) (inl h) (inr k) = inl (omega (arith, h
 later_trans (a ∷ A) (b ∷ B) (c ∷ C) (inr h) (inl k) = inl (omega (arith, h.0, k))
 later_trans (a ∷ A) (b ∷ B) (c ∷ C) (inr h) (inr k) = inr (omega (arith, h.0, k.0), later_trans A B C h.1 k.1)
 
+pub later_irrefl : (A : List ℕ) → Later A A → ⊥
+later_irrefl [] h = h
+later_irrefl (a ∷ A) (inl h) = omega (arith, h)
+later_irrefl (a ∷ A) (inr h) = later_irrefl A h.1
+
 module _ (rs : List Rule) (A : List ℕ) where
   -- where goals and due stand at rules taken so far, what comes is after A
   abbrev Ahead : List Term → List ℕ → ℕ → Type 0
